@@ -1,0 +1,259 @@
+-- The known answers K1 to K12: one table of cases, one statement.
+use Prim.Native.Nat.{ℕ, zero, suc}
+use mathlib.Core.Path.{_≡_, refl}
+use mathlib.Core.List.{List, [], _∷_, _++_, map}
+use lib.ListN.{length, replicate, set}
+use lib.IntN.{ℤ, pos, negsuc}
+use lib.Ieee.{binary64, div, ofInt, ofBits}
+use Rattle.rules.specs.Recorder.{firstBad, badSetting, settingsGood}
+use Rattle.rules.specs.Halves.{halvesOf, anyMissing, squares, sumsAt, halfAt, full}
+use Rattle.rules.specs.Events.{carries, inRun, inEvent, starts, endOf, seenOf, extremeOf, earliest, climb, retainedOf, shortsOf, sixSums, typeOf}
+use Rattle.rules.specs.EventList.{eventFrom, eventAt, eventsOf}
+use Rattle.rules.specs.Scores.{inBounds, sagGood, isEvent, reasonOf, scoring, millisOf}
+use Rattle.rules.specs.Site.{rowOf, columnOf, cellOf, isHealthy, isDisturbed, isUnknown, isPlaced, isUnplaced, sagCell, isContained, isStray, sagShortfalls, sagShort, grown, isUnsound}
+use Rattle.rules.specs.Refusals.{recordingCheck, settingsCheck, roomCheck, listCheck, listed, written, freshened, soundCheck, fullCheck, addCheck, added}
+use Rattle.rules.specs.declared.Settings.{Settings}
+use Rattle.rules.specs.declared.Event.{Event}
+use Rattle.rules.specs.declared.Scoring.{Scoring}
+use Rattle.rules.specs.declared.Scoring.the-variants.{Scored, Unscored}
+use Rattle.rules.specs.declared.Table.{Table}
+use Rattle.rules.specs.declared.Taken.{Taken}
+use Rattle.rules.specs.declared.Taken.the-variants.{Accepted}
+use Rattle.rules.specs.declared.Listed.{Listed}
+use Rattle.rules.specs.declared.Listed.the-variants.{Events}
+use Rattle.rules.specs.declared.Site.{Site as Handed}
+
+-- N 8, R 1,000, f 50, thresholds 90, 10, 110, hysteresis 2
+abbrev pub settings : Settings
+settings = record { n = 8; r = 1000; f = 50; sag = 90; interruption = 10; swell = 110; hysteresis = 2 }
+
+-- a block is four equal samples, with a value for channel a and one for b and c
+abbrev pub block : ℕ → ℕ → List ℤ
+block a b = one ++ one ++ one ++ one
+  where
+    one : List ℤ
+    one = pos a ∷ pos b ∷ pos b ∷ []
+
+abbrev pub blocks : List ℕ → List ℤ
+blocks [] = []
+blocks (v ∷ vs) = block v v ++ blocks vs
+
+-- 1000 1000 v v 1000 1000
+abbrev pub dip : ℕ → List ℤ
+dip v = blocks (1000 ∷ 1000 ∷ v ∷ v ∷ 1000 ∷ 1000 ∷ [])
+
+-- what the rules say of a recording: the answer of the list and the lent run, 17 numbers that were all 9; then of each event its
+-- score, milliseconds of its shortfall, row and cell; then the table of a fresh site that was offered it, and the shortfall
+-- straight from the samples
+record Case : Type 0 where
+  given : List ℤ
+  answer : Listed
+  run : List ℕ
+  scores : List Scoring
+  millis : List ℕ
+  rows : List ℕ
+  cells : List ℕ
+  site : Handed
+  straight : ℕ
+
+answersTo : List ℤ → Case
+answersTo xs =
+    let events = eventsOf settings xs in
+    record {
+      given = xs;
+      answer = listed settings xs 17;
+      run = written settings xs (replicate 17 9);
+      scores = map (scoring settings) events;
+      millis = map (λ (e : Event). millisOf settings (e .shortfall)) events;
+      rows = map (λ (e : Event). rowOf settings (e .extreme)) events;
+      cells = map (cellOf settings) events;
+      site = added (freshened settings .table) xs;
+      straight = sagShort settings xs;
+    }
+
+-- a score by the bits of its two floats
+abbrev bits : ℕ → ℕ → Scoring
+bits severity energy = Scored (record { severity = ofBits binary64 severity; energy = ofBits binary64 energy })
+
+-- the table after one recording: total, healthy, disturbed, unknown; cells; unplaced; sags, interruptions, swells; shortfall
+abbrev after : ℕ → ℕ → ℕ → ℕ → List ℕ → ℕ → ℕ → ℕ → ℕ → ℕ → Handed
+after total healthy disturbed unknown cells unplaced sags interruptions swells shortfall =
+    record {
+      answer = Accepted;
+      table =
+          record {
+            settings = settings;
+            total = total;
+            healthy = healthy;
+            disturbed = disturbed;
+            unknown = unknown;
+            cells = cells;
+            unplaced = unplaced;
+            sags = sags;
+            interruptions = interruptions;
+            swells = swells;
+            stray = 0;
+            shortfall = shortfall;
+          };
+    }
+
+abbrev none : List ℕ
+none = replicate 40 0
+
+abbrev cell : ℕ → List ℕ
+cell i = set none i 1
+
+abbrev nines : ℕ → List ℕ
+nines n = replicate n 9
+
+cases : List Case
+cases =
+    -- K1
+    record {
+      given = dip 1000;
+      answer = Events 0;
+      run = nines 17;
+      scores = [];
+      millis = [];
+      rows = [];
+      cells = [];
+      site = after 5 5 0 0 none 0 0 0 0 0;
+      straight = 0;
+    }
+    -- K2: severity 1, energy 0.045
+    ∷ record {
+      given = dip 500;
+      answer = Events 1;
+      run = 1 ∷ 1 ∷ 4 ∷ 3 ∷ 2000000 ∷ 500 ∷ 36000000 ∷ 0 ∷ nines 9;
+      scores = bits 0x3ff0_0000_0000_0000 0x3fa7_0a3d_70a3_d70a ∷ [];
+      millis = 45 ∷ [];
+      rows = 2 ∷ [];
+      cells = 17 ∷ [];
+      site = after 5 2 3 0 (cell 17) 0 1 0 0 36000000;
+      straight = 36000000;
+    }
+    -- K3
+    ∷ record {
+      given = blocks (replicate 6 900);
+      answer = Events 0;
+      run = nines 17;
+      scores = [];
+      millis = [];
+      rows = [];
+      cells = [];
+      site = after 5 5 0 0 none 0 0 0 0 0;
+      straight = 0;
+    }
+    -- K4: severity 0.101, energy 0.005
+    ∷ record {
+      given = dip 899;
+      answer = Events 1;
+      run = 1 ∷ 2 ∷ 3 ∷ 3 ∷ 6465608 ∷ 899 ∷ 4603176 ∷ 0 ∷ nines 9;
+      scores = bits 0x3fb9_db22_d0e5_6042 0x3f74_7ae1_47ae_147b ∷ [];
+      millis = 5 ∷ [];
+      rows = 4 ∷ [];
+      cells = 32 ∷ [];
+      site = after 5 4 1 0 (cell 32) 0 1 0 0 4603176;
+      straight = 4603176;
+    }
+    -- K5: severity 0.202, energy 0.005
+    ∷ record {
+      given = blocks (1000 ∷ 899 ∷ 899 ∷ 919 ∷ 919 ∷ 920 ∷ 920 ∷ []);
+      answer = Events 1;
+      run = 1 ∷ 1 ∷ 5 ∷ 3 ∷ 6465608 ∷ 899 ∷ 4603176 ∷ 0 ∷ nines 9;
+      scores = bits 0x3fc9_db22_d0e5_6042 0x3f74_7ae1_47ae_147b ∷ [];
+      millis = 5 ∷ [];
+      rows = 4 ∷ [];
+      cells = 33 ∷ [];
+      site = after 6 2 4 0 (cell 33) 0 1 0 0 4603176;
+      straight = 4603176;
+    }
+    -- K6: severity 2, energy 0.06
+    ∷ record {
+      given = dip 0;
+      answer = Events 2;
+      run = 1 ∷ 1 ∷ 4 ∷ 3 ∷ 0 ∷ 0 ∷ 48000000 ∷ 0 ∷ 2 ∷ 2 ∷ 3 ∷ 3 ∷ 0 ∷ 0 ∷ 0 ∷ 0 ∷ nines 1;
+      scores = bits 0x4000_0000_0000_0000 0x3fae_b851_eb85_1eb8 ∷ Unscored 4 ∷ [];
+      millis = 60 ∷ 0 ∷ [];
+      rows = 0 ∷ 0 ∷ [];
+      cells = 1 ∷ 40 ∷ [];
+      site = after 5 2 3 0 (cell 1) 0 1 1 0 48000000;
+      straight = 48000000;
+    }
+    -- K7: severity 1.8, energy 0.059
+    ∷ record {
+      given = blocks (1000 ∷ 1000 ∷ 100 ∷ 101 ∷ 1000 ∷ 1000 ∷ []);
+      answer = Events 1;
+      run = 1 ∷ 1 ∷ 4 ∷ 3 ∷ 80804 ∷ 100 ∷ 47515176 ∷ 0 ∷ nines 9;
+      scores = bits 0x3ffc_cccc_cccc_cccd 0x3fae_353f_7ced_9168 ∷ [];
+      millis = 59 ∷ [];
+      rows = 1 ∷ [];
+      cells = 9 ∷ [];
+      site = after 5 2 3 0 (cell 9) 0 1 0 0 47515176;
+      straight = 47515176;
+    }
+    -- K8
+    ∷ record {
+      given = blocks (500 ∷ 500 ∷ 1000 ∷ 1000 ∷ []);
+      answer = Events 1;
+      run = 1 ∷ 0 ∷ 2 ∷ 2 ∷ 2000000 ∷ 500 ∷ 27000000 ∷ 0 ∷ nines 9;
+      scores = Unscored 1 ∷ [];
+      millis = 33 ∷ [];
+      rows = 2 ∷ [];
+      cells = 40 ∷ [];
+      site = after 3 1 2 0 none 1 1 0 0 27000000;
+      straight = 27000000;
+    }
+    -- K9: one sample of the fifth block missing
+    ∷ record {
+      given = set (blocks (1000 ∷ 1000 ∷ 500 ∷ 500 ∷ 500 ∷ 500 ∷ 1000 ∷ 1000 ∷ [])) 48 (negsuc 2147483647);
+      answer = Events 2;
+      run = 1 ∷ 1 ∷ 3 ∷ 1 ∷ 2000000 ∷ 500 ∷ 27000000 ∷ 0 ∷ 1 ∷ 5 ∷ 6 ∷ 2 ∷ 5000000 ∷ 790 ∷ 9000000 ∷ 0 ∷ nines 1;
+      scores = Unscored 2 ∷ Unscored 1 ∷ [];
+      millis = 33 ∷ 11 ∷ [];
+      rows = 2 ∷ 3 ∷ [];
+      cells = 40 ∷ 40 ∷ [];
+      site = after 7 2 3 2 none 2 2 0 0 36000000;
+      straight = 36000000;
+    }
+    -- K10
+    ∷ record {
+      given = dip 1200;
+      answer = Events 1;
+      run = 3 ∷ 1 ∷ 4 ∷ 3 ∷ 11520000 ∷ 1200 ∷ 0 ∷ 0 ∷ nines 9;
+      scores = Unscored 4 ∷ [];
+      millis = 0 ∷ [];
+      rows = 4 ∷ [];
+      cells = 40 ∷ [];
+      site = after 5 2 3 0 none 0 0 0 1 0;
+      straight = 0;
+    }
+    -- K11
+    ∷ record {
+      given = blocks (500 ∷ 500 ∷ []);
+      answer = Events 1;
+      run = 1 ∷ 0 ∷ 1 ∷ 0 ∷ 2000000 ∷ 500 ∷ 18000000 ∷ 0 ∷ nines 9;
+      scores = Unscored 3 ∷ [];
+      millis = 22 ∷ [];
+      rows = 2 ∷ [];
+      cells = 40 ∷ [];
+      site = after 1 0 1 0 none 1 1 0 0 18000000;
+      straight = 18000000;
+    }
+    -- K12: K2 on channel a only; severity 1, energy 0.015
+    ∷ record {
+      given = block 1000 1000 ++ block 1000 1000 ++ block 500 1000 ++ block 500 1000 ++ block 1000 1000 ++ block 1000 1000;
+      answer = Events 1;
+      run = 1 ∷ 1 ∷ 4 ∷ 3 ∷ 2000000 ∷ 500 ∷ 12000000 ∷ 4 ∷ nines 9;
+      scores = bits 0x3ff0_0000_0000_0000 0x3f8e_b851_eb85_1eb8 ∷ [];
+      millis = 15 ∷ [];
+      rows = 2 ∷ [];
+      cells = 17 ∷ [];
+      site = after 5 2 3 0 (cell 17) 0 1 0 0 12000000;
+      straight = 12000000;
+    }
+    ∷ []
+
+known-answers : map (λ (c : Case). answersTo (c .given)) cases ≡ cases
+unfolding answersTo cases firstBad badSetting settingsGood halvesOf anyMissing squares sumsAt halfAt full carries inRun inEvent starts endOf seenOf extremeOf earliest climb retainedOf shortsOf sixSums typeOf eventFrom eventAt eventsOf inBounds sagGood isEvent reasonOf scoring rowOf columnOf cellOf isHealthy isDisturbed isUnknown isPlaced isUnplaced sagCell isContained isStray sagShortfalls sagShort grown isUnsound recordingCheck settingsCheck roomCheck listCheck listed written freshened soundCheck fullCheck addCheck added div ofInt ofBits
+known-answers = refl

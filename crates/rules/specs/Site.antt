@@ -1,0 +1,173 @@
+-- The site table: rows, columns and cells; each count by its own definition; unsound tables.
+use Prim.Native.Nat.{ℕ, zero, suc, _+_, _-_, _*_}
+use mathlib.Core.Bool.{Bool, true, false, not, _&&_, _||_, cond}
+use mathlib.Core.List.{List, [], _∷_, _++_}
+use lib.ListN.{replicate}
+use lib.IntN.{ℤ}
+use lib.Dec.{leb, ltb, eqb}
+use Rattle.rules.specs.Bounded.{any, count, sum, bit}
+use Rattle.rules.specs.Recorder.{settingsGood}
+use Rattle.rules.specs.Halves.{halfAt, halvesOf, known, full, atMost}
+use Rattle.rules.specs.Events.{inEvent, starts, endOf, startSeen, endSeen, extremeOf, shorts, three}
+use Rattle.rules.specs.EventList.{eventFrom}
+use Rattle.rules.specs.Scores.{reasonOf}
+use Rattle.rules.specs.declared.Settings.{Settings}
+use Rattle.rules.specs.declared.Half.{Half}
+use Rattle.rules.specs.declared.Kind.{Kind}
+use Rattle.rules.specs.declared.Kind.the-variants.{Sag, Interruption, Swell}
+use Rattle.rules.specs.declared.Event.{Event}
+use Rattle.rules.specs.declared.Table.{Table}
+
+-- ---- cells, by two rising lists of borders
+
+-- the place among borders: how many are passed before the first that is not
+abbrev pub placeOf : (ℕ → Bool) → List ℕ → ℕ
+placeOf passed [] = 0
+placeOf passed (b ∷ bs) = cond (passed b) (suc (placeOf passed bs)) 0
+
+-- rows 0 to 4: V at most 10, 40, 70, 85 percent, above
+abbrev pub rowBorders : List ℕ
+rowBorders = 10 ∷ 40 ∷ 70 ∷ 85 ∷ []
+
+-- a voltage on a border goes to the deeper row: only one above the border passes it
+unfoldable pub rowOf : Settings → ℕ → ℕ
+rowOf s extreme = placeOf (λ p. not (atMost s p extreme)) rowBorders
+
+-- columns 0 to 7, in fifths of a half-cycle: h below 2; 5h < f (0.1 s); h < f (0.5 s); h < 2f; h < 6f; h < 40f; h < 120f; the rest
+abbrev pub columnBorders : ℕ → List ℕ
+columnBorders f = 5 * 2 ∷ f ∷ 5 * f ∷ 5 * (2 * f) ∷ 5 * (6 * f) ∷ 5 * (40 * f) ∷ 5 * (120 * f) ∷ []
+
+-- a duration on a border goes to the longer column: it passes the border
+unfoldable pub columnOf : ℕ → ℕ → ℕ
+columnOf f h = placeOf (λ b. leb b (5 * h)) (columnBorders f)
+
+abbrev pub columns : ℕ
+columns = 8
+
+abbrev pub cells : ℕ
+cells = 40
+
+-- the cell of an extreme and a duration
+abbrev pub cellAt : Settings → ℕ → ℕ → ℕ
+cellAt s extreme h = columns * rowOf s extreme + columnOf (s .f) h
+
+-- the cell of an event; 40 where it is not scored
+unfoldable pub cellOf : Settings → Event → ℕ
+cellOf s e = cond (eqb (reasonOf s e) 0) (cellAt s (e .extreme) (e .end - e .start)) cells
+
+-- ---- half-cycles: each class its own test
+
+abbrev pub inAny : Settings → (ℕ → Half) → ℕ → Bool
+inAny s h k = inEvent s h Sag k || inEvent s h Interruption k || inEvent s h Swell k
+
+-- healthy: known and in no event
+unfoldable pub isHealthy : Settings → (ℕ → Half) → ℕ → Bool
+isHealthy s h k = known (h k) && not (inAny s h k)
+
+-- disturbed: known and in at least one event
+unfoldable pub isDisturbed : Settings → (ℕ → Half) → ℕ → Bool
+isDisturbed s h k = known (h k) && inAny s h k
+
+unfoldable pub isUnknown : Settings → (ℕ → Half) → ℕ → Bool
+isUnknown s h k = not (known (h k))
+
+-- ---- sags, placed and unplaced, and stray interruptions: each a test of where it starts
+
+-- a sag with both ends seen goes in one cell, any other sag is unplaced
+unfoldable pub isPlaced : Settings → (ℕ → Half) → ℕ → ℕ → Bool
+isPlaced s h n k = starts s h Sag k && (startSeen h k && endSeen h (endOf s h n Sag k))
+
+unfoldable pub isUnplaced : Settings → (ℕ → Half) → ℕ → ℕ → Bool
+isUnplaced s h n k = starts s h Sag k && not (startSeen h k && endSeen h (endOf s h n Sag k))
+
+-- the cell of the sag that starts at k
+unfoldable pub sagCell : Settings → (ℕ → Half) → ℕ → ℕ → ℕ
+sagCell s h n k =
+    let end = endOf s h n Sag k in cellAt s (extremeOf h Sag k end) (end - k)
+
+-- an interruption from start up to end is contained in one sag
+unfoldable pub isContained : Settings → (ℕ → Half) → ℕ → ℕ → ℕ → Bool
+isContained s h n start end = any (λ k. starts s h Sag k && (leb k start && leb end (endOf s h n Sag k))) n
+
+unfoldable pub isStray : Settings → (ℕ → Half) → ℕ → ℕ → Bool
+isStray s h n k = starts s h Interruption k && not (isContained s h n k (endOf s h n Interruption k))
+
+-- ---- shortfall
+
+-- as the table adds it up: the seventh number of every sag of the list
+unfoldable pub sagShortfalls : Settings → List ℤ → ℕ
+sagShortfalls s xs =
+    sum (λ k. let e = eventFrom s xs Sag k in cond (starts s (halfAt s xs) Sag k) (e .shortfall) 0) (halvesOf s xs)
+
+-- straight from the samples: over every half-cycle that lies in a sag
+unfoldable pub sagShort : Settings → List ℤ → ℕ
+sagShort s xs =
+    sum (λ k. cond (inEvent s (halfAt s xs) Sag k) (three (shorts s (halfAt s xs k))) 0) (halvesOf s xs)
+
+-- ---- the table of one recording, added to a table
+
+-- cell after cell, what g gives of its number
+abbrev pub cellsFrom : (ℕ → ℕ) → List ℕ → ℕ → List ℕ
+cellsFrom g [] i = []
+cellsFrom g (x ∷ xs) i = (x + g i) ∷ cellsFrom g xs (suc i)
+
+unfoldable pub grown : Table → List ℤ → Table
+grown t xs =
+    let s = t .settings in
+    let h = halfAt s xs in
+    let n = halvesOf s xs in
+    record {
+      settings = s;
+      total = t .total + n;
+      healthy = t .healthy + count (isHealthy s h) n;
+      disturbed = t .disturbed + count (isDisturbed s h) n;
+      unknown = t .unknown + count (isUnknown s h) n;
+      cells = cellsFrom (λ i. count (λ k. isPlaced s h n k && eqb (sagCell s h n k) i) n) (t .cells) 0;
+      unplaced = t .unplaced + count (isUnplaced s h n) n;
+      sags = t .sags + count (starts s h Sag) n;
+      interruptions = t .interruptions + count (starts s h Interruption) n;
+      swells = t .swells + count (starts s h Swell) n;
+      stray = t .stray + count (isStray s h n) n;
+      shortfall = t .shortfall + sagShortfalls s xs;
+    }
+
+-- ---- fresh, zeros, unsound
+
+abbrev pub empty : Settings → Table
+empty s =
+    record {
+      settings = s;
+      total = 0;
+      healthy = 0;
+      disturbed = 0;
+      unknown = 0;
+      cells = replicate cells 0;
+      unplaced = 0;
+      sags = 0;
+      interruptions = 0;
+      swells = 0;
+      stray = 0;
+      shortfall = 0;
+    }
+
+abbrev pub zeroSettings : Settings
+zeroSettings = record { n = 0; r = 0; f = 0; sag = 0; interruption = 0; swell = 0; hysteresis = 0 }
+
+abbrev pub total : List ℕ → ℕ
+total [] = 0
+total (x ∷ xs) = x + total xs
+
+-- how many half-cycles a table may hold
+abbrev pub mostHalves : ℕ
+mostHalves = 4000000
+
+-- settings bad; total above 4,000,000; the three half-cycle counts don't sum to it; cells and unplaced don't sum to sags; any
+-- event kind above total; stray above interruptions; shortfall above 3 x N x R x R x total
+unfoldable pub isUnsound : Table → Bool
+isUnsound t =
+    not (settingsGood (t .settings)) || ltb mostHalves (t .total)
+    || not (eqb (t .healthy + t .disturbed + t .unknown) (t .total))
+    || not (eqb (total (t .cells) + t .unplaced) (t .sags))
+    || (ltb (t .total) (t .sags) || ltb (t .total) (t .interruptions) || ltb (t .total) (t .swells))
+    || ltb (t .interruptions) (t .stray)
+    || ltb (3 * full (t .settings) * t .total) (t .shortfall)
