@@ -3,6 +3,8 @@
 use Prim.Native.Nat.{ℕ, zero, suc, _+_, _-_, _≤_, _<_}
 use mathlib.Core.Path.{_≡_, refl, sym, ap, _∙_}
 use mathlib.Core.Bool.{Bool, true, false, not, _&&_, _||_, cond}
+use mathlib.Core.Logic.{⊎-elim}
+use native.Mathlib.Nat.{eq-or-lt-of-le}
 use native.Mathlib.Numerals.{add-one}
 use native.Mathlib.Omega.{arith}
 use borrow.Author.Tests.{lt-ltb, le-ltb}
@@ -99,3 +101,21 @@ module _ (p : ℕ → Bool) (k n : ℕ) where
 
   pub first-end : k ≡ n → firstNot p k (n - k) ≡ k
   first-end e = let s : n - k ≡ 0 = omega arith in rw s
+
+-- where the walk stops: at t, if all before pass and t does not; at its end, if all pass
+pub first-is : (p : ℕ → Bool) (s n t : ℕ) → s ≤ t → t < s + n → ((m : ℕ) → s ≤ m → m < t → p m ≡ true) → p t ≡ false → firstNot p s n ≡ t
+first-is p s zero t l u h e = absurd (omega arith)
+first-is p s (suc n) t l u h e =
+    ⊎-elim (λ q. let f : p s ≡ false = rw q e in rw f q) (λ q. rw (h s (omega arith) q) (first-is p (suc s) n t q (omega arith) (λ m a b. h m (omega arith) b) e))
+    (eq-or-lt-of-le l)
+
+pub first-all : (p : ℕ → Bool) (s n : ℕ) → ((m : ℕ) → s ≤ m → m < s + n → p m ≡ true) → firstNot p s n ≡ s + n
+first-all p s zero h = omega arith
+first-all p s (suc n) h =
+    rw (h s (omega arith) (omega arith)) (first-all p (suc s) n (λ m a b. h m (omega arith) (omega arith)) ∙ omega arith)
+
+-- the run from s through k - 1 that k is not in ends at k
+pub first-ends : (p : ℕ → Bool) (s k n : ℕ) → s ≤ k → k ≤ n → ((m : ℕ) → s ≤ m → m < k → p m ≡ true) → p k ≡ false → firstNot p s (n - s) ≡ k
+first-ends p s k n l u h e =
+    ⊎-elim (λ q. first-all p s (n - s) (λ m a b. h m a (omega arith)) ∙ omega arith) (λ q. first-is p s (n - s) k l (omega arith) h e)
+    (eq-or-lt-of-le u)

@@ -1,0 +1,114 @@
+-- The shortfalls of all sags add up to the sum over every half-cycle in a sag. Over any test: what the runs that start below m hold is
+-- what the numbers below m hold that pass, and of the run that goes on at m what is left of it. Assumes nothing.
+use Prim.Native.Nat.{ℕ, zero, suc, _+_, _-_, _≤_, _<_}
+use mathlib.Core.Path.{_≡_, refl, sym, _∙_}
+use mathlib.Core.Bool.{Bool, true, false, not, _&&_, cond}
+use mathlib.Core.List.{List}
+use mathlib.Core.Logic.{⊎-elim}
+use native.Mathlib.Nat.{eq-or-lt-of-le}
+use native.Mathlib.Numerals.{add-one}
+use native.Mathlib.Omega.{arith}
+use borrow.Author.Tests.{lt-ltb, le-ltb}
+use lib.Dec.{ltb}
+use lib.IntN.{ℤ}
+use Rattle.rules.specs.Bounded.{sum, before, firstNot}
+use Rattle.rules.specs.Halves.{halfAt, halvesOf}
+use Rattle.rules.specs.Events.{inEvent, starts, endOf, shorts, sumFrom, shortsOf, three}
+use Rattle.rules.specs.EventList.{eventFrom}
+use Rattle.rules.specs.Site.{sagShortfalls, sagShort}
+use Rattle.rules.specs.declared.Settings.{Settings}
+use Rattle.rules.specs.declared.Half.{Half}
+use Rattle.rules.specs.declared.Kind.the-variants.{Sag}
+use Rattle.rules.proofs.Adding.{sum-plus, sum-none}
+use Rattle.rules.proofs.Bounded.{sum-same}
+use Rattle.rules.proofs.Longest.{isStart, first-low}
+use Rattle.rules.proofs.Runs.{first-go, first-stop, first-end}
+
+-- ---- sums from a start up to an end
+
+module _ (f : ℕ → ℕ) where
+  from-none : (a e : ℕ) → e ≤ a → sumFrom f a e ≡ 0
+  from-none a e l = sum-none (λ k. cond (ltb k a) 0 (f k)) e (λ k u. rw (lt-ltb k a (omega arith)))
+
+  -- the first of them apart
+  from-first : (a e : ℕ) → a < e → sumFrom f a e ≡ f a + sumFrom f (suc a) e
+  from-first a zero l = absurd (omega arith)
+  from-first a (suc e) l =
+      ⊎-elim
+      (λ q. rw q (rw (le-ltb e e (omega arith), lt-ltb e (suc e) (omega arith)) (omega (arith, from-none e e (omega arith), from-none (suc e) e (omega arith)))))
+      (λ u. rw (le-ltb e a (omega arith), le-ltb e (suc a) (omega arith)) (omega (arith, from-first a e u)))
+      (eq-or-lt-of-le {n = a} {m = e} (omega arith))
+
+-- ---- over any test
+
+-- one number more: it passes or not (b), and so did the one before it (c)
+turn : (b c : Bool) (starts passing here first later : ℕ) → (b ≡ true → here ≡ first + later) → (b ≡ false → here ≡ 0)
+    → starts ≡ passing + cond c here 0 → starts + cond (b && not c) here 0 ≡ passing + cond b first 0 + cond b later 0
+turn true true starts passing here first later go stop h = omega (arith, go refl)
+turn true false starts passing here first later go stop h = omega (arith, go refl)
+turn false true starts passing here first later go stop h = omega (arith, stop refl)
+turn false false starts passing here first later go stop h = omega arith
+
+module _ (p : ℕ → Bool) (f : ℕ → ℕ) (n : ℕ) where
+  -- what the run at k holds from k on
+  abbrev rest : ℕ → ℕ
+  rest k = sumFrom f k (firstNot p k (n - k))
+
+  rest-go : (k : ℕ) → k < n → p k ≡ true → rest k ≡ f k + rest (suc k)
+  rest-go k l e =
+      rw (first-go p k n l e, add-one)
+      (from-first f k (firstNot p (suc k) (n - suc k)) (first-low p (suc k) (n - suc k)))
+
+  rest-stop : (k : ℕ) → k < n → p k ≡ false → rest k ≡ 0
+  rest-stop k l e = rw (first-stop p k n l e) (from-none f k k (omega arith))
+
+  rest-end : rest n ≡ 0
+  rest-end = rw (first-end p n n refl) (from-none f n n (omega arith))
+
+  -- below m, with what is left of the run that goes on at m
+  below : (m : ℕ) → m ≤ n
+      → sum (λ a. cond (isStart p a) (rest a) 0) m ≡ sum (λ k. cond (p k) (f k) 0) m + cond (before p m) (rest m) 0
+  below zero l = refl
+  below (suc m) l =
+      turn (p m) (before p m) (sum (λ a. cond (isStart p a) (rest a) 0) m) (sum (λ k. cond (p k) (f k) 0) m) (rest m) (f m) (rest (suc m))
+      (rest-go m l) (rest-stop m l) (below m (omega arith))
+
+  none-left : (b : Bool) → cond b (rest n) 0 ≡ 0
+  none-left true = rest-end
+  none-left false = refl
+
+  -- THE LAW: the runs hold what passes, each number once
+  pub runs-hold : sum (λ a. cond (isStart p a) (sumFrom f a (firstNot p a (n - a))) 0) n ≡ sum (λ k. cond (p k) (f k) 0) n
+  runs-hold = omega (arith, below n (omega arith), none-left (before p n))
+
+-- ---- channel by channel
+
+from-plus : (f g : ℕ → ℕ) (a e : ℕ) → sumFrom (λ k. f k + g k) a e ≡ sumFrom f a e + sumFrom g a e
+from-plus f g a e =
+    sum-same (λ k. cond (ltb k a) 0 (f k + g k)) (λ k. cond (ltb k a) 0 (f k) + cond (ltb k a) 0 (g k)) e (λ k l. split (ltb k a) (f k) (g k))
+    ∙ sum-plus (λ k. cond (ltb k a) 0 (f k)) (λ k. cond (ltb k a) 0 (g k)) e
+  where
+    split : (b : Bool) (x y : ℕ) → cond b 0 (x + y) ≡ cond b 0 x + cond b 0 y
+    split true x y = refl
+    split false x y = refl
+
+pub three-channels : (s : Settings) (h : ℕ → Half) (a e : ℕ)
+    → three (shortsOf s h a e) ≡ sumFrom (λ k. three (shorts s (h k))) a e
+unfolding shortsOf
+three-channels s h a e =
+    sym
+    (from-plus (λ k. shorts s (h k) .a + shorts s (h k) .b) (λ k. shorts s (h k) .c) a e
+    ∙ rw (from-plus (λ k. shorts s (h k) .a) (λ k. shorts s (h k) .b) a e))
+
+-- ---- the sags
+
+pub shortfalls-agree : (s : Settings) (xs : List ℤ) → sagShortfalls s xs ≡ sagShort s xs
+unfolding sagShortfalls sagShort eventFrom starts endOf
+shortfalls-agree s xs =
+    let h = halfAt s xs in
+    let n = halvesOf s xs in
+    let p = inEvent s h Sag in
+    sum-same (λ a. cond (isStart p a) (three (shortsOf s h a (firstNot p a (n - a)))) 0)
+    (λ a. cond (isStart p a) (sumFrom (λ k. three (shorts s (h k))) a (firstNot p a (n - a))) 0) n
+    (λ a l. rw (three-channels s h a (firstNot p a (n - a))))
+    ∙ runs-hold p (λ k. three (shorts s (h k))) n
