@@ -12,3 +12,7 @@ pub mod Order
 pub mod Shortfall
 pub mod Samples
 pub mod Retained
+pub mod Scorable
+pub mod Stray
+pub mod DemandTwo
+pub mod DemandThree

@@ -1,7 +1,7 @@
 -- What an accepted recording is: its windows lie within the run, its samples are in range, and so its sums are low. Assumes nothing.
-use Prim.Native.Nat.{ℕ, zero, suc, _+_, _-_, _*_, _/_, _%_, _≤_, _<_}
+use Prim.Native.Nat.{ℕ, zero, suc, _+_, _*_, _/_, _%_, _≤_, _<_}
 use mathlib.Core.Path.{_≡_, refl, sym, ap, _∙_}
-use mathlib.Core.Bool.{Bool, true, false, not, _&&_, _||_, cond}
+use mathlib.Core.Bool.{Bool, true, false, not, _&&_, cond, false≢true}
 use mathlib.Core.List.{List, [], _∷_}
 use mathlib.Core.Logic.{⊎-elim}
 use native.Mathlib.Nat.{eq-or-lt-of-le, mul-le-mul, mul-le-mul-right, div-mul-le-self, le-trans}
@@ -12,12 +12,11 @@ use lib.IntN.{ℤ, pos, natAbs}
 use lib.ListN.{length, getD}
 use Rattle.rules.specs.Bounded.{any, all, sum, firstNot}
 use Rattle.rules.specs.Recorder.{sampleAt, missing, inRange, firstBad}
-use Rattle.rules.specs.Halves.{samplesOf, halvesOf, begin, anyMissing, square, squares, sumsAt, halfAt}
-use Rattle.rules.specs.Events.{sixParts, plus, sixBelow, sixSums, numberOfFirst, smallest, largest, typeOf}
+use Rattle.rules.specs.Halves.{samplesOf, halvesOf, begin, anyMissing, square, squares, sumsAt, halfAt, known}
+use Rattle.rules.specs.Events.{plus, sixBelow, sixSums, numberOfFirst, smallest, largest, typeOf}
 use Rattle.rules.specs.Refusals.{recordingCheck, mostHalfCycles}
 use Rattle.rules.specs.declared.Settings.{Settings}
 use Rattle.rules.specs.declared.Sums.{Sums}
-use Rattle.rules.specs.declared.Half.{Half}
 use Rattle.rules.specs.declared.Half.the-variants.{Unknown, Known}
 use Rattle.rules.specs.declared.Refusal.{Refusal}
 use Rattle.rules.specs.declared.Refusal.the-variants.{Uneven, Short, Ragged, Long, Sample}
@@ -25,6 +24,7 @@ use Rattle.rules.specs.declared.Taken.{Taken}
 use Rattle.rules.specs.declared.Taken.the-variants.{Accepted, Refused}
 use Rattle.rules.proofs.Booleans.{both, neither, not-both}
 use Rattle.rules.proofs.Bounded.{all-at, all-true}
+use Rattle.rules.proofs.Longest.{first-between, first-refused}
 use Rattle.rules.proofs.Ranges.{Good}
 
 -- ---- bounded tests and sums
@@ -39,31 +39,19 @@ pub sum-le : (f : ℕ → ℕ) (b n : ℕ) → ((j : ℕ) → j < n → f j ≤ 
 sum-le f b zero h = omega arith
 sum-le f b (suc n) h = omega (arith, sum-le f b n (λ j l. h j (omega arith)), h n (omega arith))
 
--- ---- the first that a test refuses: it lies within the bound, all before it pass, and it does not
-
-pub first-high : (p : ℕ → Bool) (s n : ℕ) → firstNot p s n ≤ s + n
-first-high p s zero = omega arith
-first-high p s (suc n) = by (p s) (firstNot p (suc s) n) (first-high p (suc s) n)
+-- there is one below n exactly where not every number below n passes
+pub first-all : (p : ℕ → Bool) (n : ℕ) → ltb (firstNot p 0 n) n ≡ not (all p n)
+first-all p n = by (all p n) (ltb (firstNot p 0 n) n) refl refl
   where
-    by : (b : Bool) (r : ℕ) → r ≤ suc s + n → cond b r s ≤ s + suc n
-    by true r h = omega arith
-    by false r h = omega arith
-
-pub first-passes : (p : ℕ → Bool) (s n i : ℕ) → s ≤ i → i < firstNot p s n → p i ≡ true
-first-passes p s zero i l m = absurd (omega arith)
-first-passes p s (suc n) i l m = by (p s) refl m (first-passes p (suc s) n i)
-  where
-    by : (b : Bool) → p s ≡ b → i < cond b (firstNot p (suc s) n) s → (suc s ≤ i → i < firstNot p (suc s) n → p i ≡ true) → p i ≡ true
-    by true e m later = ⊎-elim (λ q. rw (← q) e) (λ q. later q m) (eq-or-lt-of-le l)
-    by false e m later = absurd (omega arith)
-
-pub first-fails : (p : ℕ → Bool) (s n : ℕ) → firstNot p s n < s + n → p (firstNot p s n) ≡ false
-first-fails p s zero l = absurd (omega arith)
-first-fails p s (suc n) l = by (p s) refl (firstNot p (suc s) n) l (first-fails p (suc s) n)
-  where
-    by : (b : Bool) → p s ≡ b → (r : ℕ) → cond b r s < s + suc n → (r < suc s + n → p r ≡ false) → p (cond b r s) ≡ false
-    by true e r l later = later (omega arith)
-    by false e r l later = e
+    by : (every found : Bool) → all p n ≡ every → ltb (firstNot p 0 n) n ≡ found → found ≡ not every
+    by true true e f =
+        let l : firstNot p 0 n < n = ltb-true (firstNot p 0 n) n f in
+        absurd (not-both (p (firstNot p 0 n)) (all-at p n e (firstNot p 0 n) l) (first-refused p 0 n (omega arith)))
+    by true false e f = refl
+    by false true e f = refl
+    by false false e f =
+        let l : n ≤ firstNot p 0 n = ltb-false (firstNot p 0 n) n f in
+        absurd (not-both (all p n) (all-true p n (λ i m. first-between p 0 n i (omega arith) (omega arith))) e)
 
 -- ---- an accepted recording: what its check says
 
@@ -75,13 +63,13 @@ pub record Accepts (s : Settings) (xs : List ℤ) : Type 0 where
   pub in-range : (i : ℕ) → i < length xs → inRange (getD xs i (pos 0)) ≡ true
 
 -- a check that accepts does not refuse, and goes on to the next
-goes-on : (refused : Bool) (r : Refusal) (next : Taken) → cond refused (Refused r) next ≡ Accepted → (refused ≡ false) × (next ≡ Accepted)
+pub goes-on : (refused : Bool) (r : Refusal) (next : Taken) → cond refused (Refused r) next ≡ Accepted → (refused ≡ false) × (next ≡ Accepted)
 goes-on true r next h = let z : _≡_ {A = ℕ} 0 1 = cc in absurd (omega arith)
 goes-on false r next h = (refl, h)
 
 none-bad : (xs : List ℤ) → length xs ≤ firstBad xs → (i : ℕ) → i < length xs → inRange (getD xs i (pos 0)) ≡ true
 unfolding firstBad
-none-bad xs h i l = first-passes (λ i. inRange (getD xs i (pos 0))) 0 (length xs) i (omega arith) (omega arith)
+none-bad xs h i l = first-between (λ i. inRange (getD xs i (pos 0))) 0 (length xs) i (omega arith) (omega arith)
 
 pub accepts : (s : Settings) (xs : List ℤ) → recordingCheck s xs ≡ Accepted → Accepts s xs
 unfolding recordingCheck
@@ -129,6 +117,14 @@ knows s xs k v h =
     let q = both (ltb k (halvesOf s xs)) (not (anyMissing s xs k)) (p .0) in
     record { exists = ltb-true k (halvesOf s xs) (q .0); whole = not-true (anyMissing s xs k) (q .1); sums = p .1 }
 
+pub known-is : (s : Settings) (xs : List ℤ) (k : ℕ) → known (halfAt s xs k) ≡ true → halfAt s xs k ≡ Known (sumsAt s xs k)
+unfolding halfAt
+known-is s xs k h = by (ltb k (halvesOf s xs) && not (anyMissing s xs k)) h
+  where
+    by : (b : Bool) → known (cond b (Known (sumsAt s xs k)) Unknown) ≡ true → cond b (Known (sumsAt s xs k)) Unknown ≡ Known (sumsAt s xs k)
+    by true h = refl
+    by false h = absurd (false≢true h)
+
 -- a sample in range that is not missing
 pub low : (x : ℤ) → inRange x ≡ true → missing x ≡ false → natAbs x ≤ 100000
 low x r m = leb-true (natAbs x) 100000 (rw m at r)
@@ -165,11 +161,6 @@ sums-low s xs g a k v h =
       squares-low s xs g a k (p .exists) (p .whole) 2 (omega arith),
     )
 
--- what lies past the end is unknown
-pub half-past : (s : Settings) (xs : List ℤ) (k : ℕ) → halvesOf s xs ≤ k → halfAt s xs k ≡ Unknown
-unfolding halfAt
-half-past s xs k h = rw (le-ltb k (halvesOf s xs) h)
-
 -- ---- six sums, and a type from 0 to 6
 
 length-plus : (xs ys : List ℕ) → length xs ≡ length ys → length (plus xs ys) ≡ length xs
@@ -177,7 +168,7 @@ length-plus [] ys h = refl
 length-plus (x ∷ xs) [] h = absurd (omega arith)
 length-plus (x ∷ xs) (y ∷ ys) h = ap suc (length-plus xs ys (omega arith))
 
-pub length-below : (f : ℕ → List ℕ) → ((i : ℕ) → length (f i) ≡ 6) → (n : ℕ) → length (sixBelow f n) ≡ 6
+length-below : (f : ℕ → List ℕ) → ((i : ℕ) → length (f i) ≡ 6) → (n : ℕ) → length (sixBelow f n) ≡ 6
 length-below f h zero = refl
 length-below f h (suc n) = length-plus (sixBelow f n) (f n) (length-below f h n ∙ sym (h n)) ∙ length-below f h n
 

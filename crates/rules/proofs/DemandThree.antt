@@ -1,0 +1,432 @@
+-- A fresh site table offered any recordings in any sequence, refused ones among them, holds what the definitions give of those that it
+-- took, each count by its own: what one recording adds is told of any field once, and a table that grew from a fresh one is never
+-- unsound. Assumes nothing.
+use Prim.Native.Nat.{ℕ, zero, suc, _+_, _-_, _*_, _≤_, _<_}
+use mathlib.Core.Path.{_≡_, refl, sym, ap, _∙_}
+use mathlib.Core.Bool.{Bool, true, false, not, _&&_, _||_, cond}
+use mathlib.Core.List.{List, [], _∷_}
+use native.Mathlib.Nat.{mul-add, mul-comm}
+use native.Mathlib.Omega.{arith}
+use borrow.Author.Tests.{ltb-false, le-ltb, eqb-true, eq-eqb, not-false}
+use lib.Dec.{ltb, eqb}
+use lib.IntN.{ℤ}
+use lib.ListN.{length, getD, getD-replicate}
+use lib.Seq.{ext-getD}
+use Rattle.rules.specs.Bounded.{count, sum}
+use Rattle.rules.specs.Recorder.{badSetting, settingsGood}
+use Rattle.rules.specs.Halves.{halfAt, halvesOf, full}
+use Rattle.rules.specs.Events.{inEvent, starts, endOf, startSeen, endSeen, seenOf, shorts, three}
+use Rattle.rules.specs.EventList.{eventFrom}
+use Rattle.rules.specs.Site.{cellOf, isHealthy, isDisturbed, isUnknown, isPlaced, isUnplaced, sagCell, isContained, isStray, sagShort, cellsFrom, grown, cells, empty, total, mostHalves, isUnsound}
+use Rattle.rules.specs.Refusals.{recordingCheck, settingsCheck, byCheck, andThen, freshened, soundCheck, fullCheck, addCheck, added}
+use Rattle.rules.specs.declared.Settings.{Settings}
+use Rattle.rules.specs.declared.Half.{Half}
+use Rattle.rules.specs.declared.Kind.the-variants.{Sag, Interruption, Swell}
+use Rattle.rules.specs.declared.Table.{Table}
+use Rattle.rules.specs.declared.Refusal.{Refusal}
+use Rattle.rules.specs.declared.Refusal.the-variants.{Full, Unsound}
+use Rattle.rules.specs.declared.Taken.{Taken}
+use Rattle.rules.specs.declared.Taken.the-variants.{Accepted, Refused}
+use Rattle.rules.proofs.Booleans.{both, neither}
+use Rattle.rules.proofs.Borders.{cells-make-up}
+use Rattle.rules.proofs.Bounded.{count-le, sum-same}
+use Rattle.rules.proofs.Choices.{of-cond}
+use Rattle.rules.proofs.Classes.{count-cut, three-classes, placed-or-not}
+use Rattle.rules.proofs.DemandTwo.{Scorable, shorts-high, event-passes, reason-of, seen-both}
+use Rattle.rules.proofs.Ranges.{good}
+use Rattle.rules.proofs.Samples.{accepts, sum-le, goes-on}
+use Rattle.rules.proofs.Shortfall.{shortfalls-agree}
+
+-- ---- recordings offered in sequence
+
+-- each in turn handed to `added`, and the table taken on
+abbrev pub offer : Table → List (List ℤ) → Table
+offer t [] = t
+offer t (xs ∷ rs) = offer (added t xs .table) rs
+
+-- those that are accepted at their turn
+abbrev pub taken : Table → List (List ℤ) → List (List ℤ)
+taken t [] = []
+taken t (xs ∷ rs) = let rest = taken (added t xs .table) rs in byCheck (addCheck t xs) (xs ∷ rest) (λ r. rest)
+
+-- the sum of what g gives of each
+abbrev pub over : (List ℤ → ℕ) → List (List ℤ) → ℕ
+over g [] = 0
+over g (xs ∷ rs) = g xs + over g rs
+
+-- a refused recording changes nothing
+pub refused-same : (t : Table) (xs : List ℤ) (r : Refusal) → addCheck t xs ≡ Refused r → added t xs .table ≡ t
+unfolding added
+refused-same t xs r h = rw h
+
+-- ---- once for every fact and every field
+
+module _ (P : Table → Type 0) (keeps : (t : Table) (xs : List ℤ) → P t → addCheck t xs ≡ Accepted → P (grown t xs)) where
+  added-keeps : (t : Table) (xs : List ℤ) → P t → P (added t xs .table)
+  unfolding added
+  added-keeps t xs p = go (addCheck t xs) refl
+    where
+      go : (c : Taken) → addCheck t xs ≡ c → P (byCheck c (grown t xs) (λ r. t))
+      go Accepted h = keeps t xs p h
+      go (Refused r) h = p
+
+  -- a fact that an accepted recording keeps holds after all
+  pub offer-keeps : (t : Table) (rs : List (List ℤ)) → P t → P (offer t rs)
+  offer-keeps t [] p = p
+  offer-keeps t (xs ∷ rs) p = offer-keeps (added t xs .table) rs (added-keeps t xs p)
+
+  -- THE LAW: a field to which each accepted recording adds g holds the sum of g over those taken
+  module _ (f : Table → ℕ) (g : List ℤ → ℕ) (adds : (t : Table) (xs : List ℤ) → P t → f (grown t xs) ≡ f t + g xs) where
+    pub offer-adds : (t : Table) (rs : List (List ℤ)) → P t → f (offer t rs) ≡ f t + over g (taken t rs)
+    unfolding added
+    offer-adds t [] p = omega arith
+    offer-adds t (xs ∷ rs) p =
+        offer-adds (added t xs .table) rs (added-keeps t xs p) ∙ go (addCheck t xs)
+      where
+        go : (c : Taken) → f (byCheck c (grown t xs) (λ r. t)) + over g (taken (added t xs .table) rs) ≡ f t + over g (byCheck c (xs ∷ taken (added t xs .table) rs) (λ r. taken (added t xs .table) rs))
+        go Accepted = omega (arith, adds t xs p)
+        go (Refused r) = refl
+
+-- ---- cells
+
+module _ (g : ℕ → ℕ) where
+  pub cells-length : (cs : List ℕ) (i : ℕ) → length (cellsFrom g cs i) ≡ length cs
+  cells-length [] i = refl
+  cells-length (c ∷ cs) i = ap suc (cells-length cs (suc i))
+
+  pub cells-at : (cs : List ℕ) (i j : ℕ) → j < length cs → getD (cellsFrom g cs i) j 0 ≡ getD cs j 0 + g (i + j)
+  cells-at [] i j l = absurd (omega arith)
+  cells-at (c ∷ cs) i zero l = let q : i + 0 ≡ i = omega arith in rw q
+  cells-at (c ∷ cs) i (suc j) l = let q : i + suc j ≡ suc i + j = omega arith in rw q (cells-at cs (suc i) j (omega arith))
+
+-- a sum, its first apart
+sum-first : (f : ℕ → ℕ) (n : ℕ) → sum f (suc n) ≡ f 0 + sum (λ k. f (suc k)) n
+sum-first f zero = omega arith
+sum-first f (suc n) = omega (arith, sum-first f n)
+
+cells-sum : (g : ℕ → ℕ) (cs : List ℕ) (i : ℕ) → total (cellsFrom g cs i) ≡ total cs + sum (λ j. g (i + j)) (length cs)
+cells-sum g [] i = refl
+cells-sum g (c ∷ cs) i =
+    let first = sum-first (λ j. g (i + j)) (length cs) in
+    let same = sum-same (λ j. g (suc i + j)) (λ j. g (i + suc j)) (length cs) (λ j l. ap g (omega arith)) in
+    let at : g (i + 0) ≡ g i = ap g (omega arith) in
+    omega (arith, cells-sum g cs (suc i))
+
+-- ---- sound tables
+
+-- what a table that is not unsound is, part by part
+pub record Sound (t : Table) : Type 0 where
+  pub good-settings : settingsGood (t .settings) ≡ true
+  pub total-high : t .total ≤ mostHalves
+  pub classes : t .healthy + t .disturbed + t .unknown ≡ t .total
+  pub places : total (t .cells) + t .unplaced ≡ t .sags
+  pub sags-high : t .sags ≤ t .total
+  pub interruptions-high : t .interruptions ≤ t .total
+  pub swells-high : t .swells ≤ t .total
+  pub stray-high : t .stray ≤ t .interruptions
+  pub shortfall-high : t .shortfall ≤ 3 * full (t .settings) * t .total
+
+none-of : (a b c d e f g h i : Bool) → a || b || c || d || (e || f || g) || h || i ≡ false
+    → (a ≡ false) × (b ≡ false) × (c ≡ false) × (d ≡ false) × (e ≡ false) × (f ≡ false) × (g ≡ false) × (h ≡ false) × (i ≡ false)
+none-of a b c d e f g h i q =
+    let x = neither (a || b || c || d || (e || f || g) || h) i q in
+    let y = neither (a || b || c || d || (e || f || g)) h (x .0) in
+    let z = neither (a || b || c || d) (e || f || g) (y .0) in
+    let u = neither (a || b || c) d (z .0) in
+    let v = neither (a || b) c (u .0) in
+    let w = neither a b (v .0) in
+    let k = neither (e || f) g (z .1) in
+    let l = neither e f (k .0) in
+    (w .0, w .1, v .1, u .1, l .0, l .1, k .1, y .1, x .1)
+
+pub sound-parts : (t : Table) → isUnsound t ≡ false → Sound t
+unfolding isUnsound
+sound-parts t h =
+    let p =
+    none-of (not (settingsGood (t .settings))) (ltb mostHalves (t .total)) (not (eqb (t .healthy + t .disturbed + t .unknown) (t .total)))
+    (not (eqb (total (t .cells) + t .unplaced) (t .sags))) (ltb (t .total) (t .sags)) (ltb (t .total) (t .interruptions)) (ltb (t .total) (t .swells))
+    (ltb (t .interruptions) (t .stray)) (ltb (3 * full (t .settings) * t .total) (t .shortfall)) h in
+    record {
+      good-settings = not-false (settingsGood (t .settings)) (p .0);
+      total-high = ltb-false mostHalves (t .total) (p .1);
+      classes = eqb-true (t .healthy + t .disturbed + t .unknown) (t .total) (not-false (eqb (t .healthy + t .disturbed + t .unknown) (t .total)) (p .2));
+      places = eqb-true (total (t .cells) + t .unplaced) (t .sags) (not-false (eqb (total (t .cells) + t .unplaced) (t .sags)) (p .3));
+      sags-high = ltb-false (t .total) (t .sags) (p .4);
+      interruptions-high = ltb-false (t .total) (t .interruptions) (p .5);
+      swells-high = ltb-false (t .total) (t .swells) (p .6);
+      stray-high = ltb-false (t .interruptions) (t .stray) (p .7);
+      shortfall-high = ltb-false (3 * full (t .settings) * t .total) (t .shortfall) (p .8);
+    }
+
+pub sound-made : (t : Table) → Sound t → isUnsound t ≡ false
+unfolding isUnsound
+sound-made t r =
+    rw (
+      r .good-settings,
+      le-ltb mostHalves (t .total) (r .total-high),
+      eq-eqb (t .healthy + t .disturbed + t .unknown) (t .total) (r .classes),
+      eq-eqb (total (t .cells) + t .unplaced) (t .sags) (r .places),
+      le-ltb (t .total) (t .sags) (r .sags-high),
+      le-ltb (t .total) (t .interruptions) (r .interruptions-high),
+      le-ltb (t .total) (t .swells) (r .swells-high),
+      le-ltb (t .interruptions) (t .stray) (r .stray-high),
+      le-ltb (3 * full (t .settings) * t .total) (t .shortfall) (r .shortfall-high),
+    )
+
+-- ---- an accepted recording keeps a table sound
+
+-- what an accepting check says
+pub record Adds (t : Table) (xs : List ℤ) : Type 0 where
+  pub sound : isUnsound t ≡ false
+  pub recording : recordingCheck (t .settings) xs ≡ Accepted
+  pub fits : t .total + halvesOf (t .settings) xs ≤ mostHalves
+
+both-accept : (c d : Taken) → andThen c d ≡ Accepted → (c ≡ Accepted) × (d ≡ Accepted)
+both-accept Accepted d h = (refl, h)
+both-accept (Refused r) d h = let z : _≡_ {A = ℕ} 0 1 = cc in absurd (omega arith)
+
+pub adds : (t : Table) (xs : List ℤ) → addCheck t xs ≡ Accepted → Adds t xs
+unfolding addCheck soundCheck fullCheck
+adds t xs h =
+    let p = both-accept (soundCheck t) (andThen (recordingCheck (t .settings) xs) (fullCheck t xs)) h in
+    let q = both-accept (recordingCheck (t .settings) xs) (fullCheck t xs) (p .1) in
+    record {
+      sound = goes-on (isUnsound t) Unsound Accepted (p .0) .0;
+      recording = q .0;
+      fits = ltb-false mostHalves (t .total + halvesOf (t .settings) xs) (goes-on (ltb mostHalves (t .total + halvesOf (t .settings) xs)) (Full (mostHalves - t .total)) Accepted (q .1) .0);
+    }
+
+-- no more stray interruptions than interruptions
+stray-few : (s : Settings) (h : ℕ → Half) (n m : ℕ) → count (isStray s h n) m ≤ count (starts s h Interruption) m
+unfolding isStray
+stray-few s h n m = omega (arith, count-cut (starts s h Interruption) (λ k. isContained s h n k (endOf s h n Interruption k)) m)
+
+-- each half-cycle adds at most 3 x N x R x R
+pub sag-short-high : (s : Settings) (xs : List ℤ) → sagShort s xs ≤ halvesOf s xs * (3 * full s)
+unfolding sagShort
+sag-short-high s xs =
+    sum-le (λ k. cond (inEvent s (halfAt s xs) Sag k) (three (shorts s (halfAt s xs k))) 0) (3 * full s) (halvesOf s xs)
+    (λ k l. of-cond (λ x. x ≤ 3 * full s) (inEvent s (halfAt s xs) Sag k) (three (shorts s (halfAt s xs k))) 0 (λ e. shorts-high s (halfAt s xs k)) (λ e. omega arith))
+
+-- the sags of a recording that go in cell i
+abbrev pub placedIn : Settings → List ℤ → ℕ → ℕ
+placedIn s xs i = let h = halfAt s xs in let n = halvesOf s xs in count (λ k. isPlaced s h n k && eqb (sagCell s h n k) i) n
+
+-- the cell of a placed sag is that of its event in the list
+pub placed-cell : (s : Settings) (xs : List ℤ) → settingsGood s ≡ true → recordingCheck s xs ≡ Accepted
+    → (k : ℕ) → isPlaced s (halfAt s xs) (halvesOf s xs) k ≡ true → cellOf s (eventFrom s xs Sag k) ≡ sagCell s (halfAt s xs) (halvesOf s xs) k
+unfolding isPlaced cellOf sagCell eventFrom
+placed-cell s xs g ok k h =
+    let b = endOf s (halfAt s xs) (halvesOf s xs) Sag k in
+    let p = both (starts s (halfAt s xs) Sag k) (startSeen (halfAt s xs) k && endSeen (halfAt s xs) b) h in
+    let scorable : Scorable s (eventFrom s xs Sag k) =
+    record {
+      settings = g;
+      event = event-passes s xs (good s g) (accepts s xs ok) Sag k (p .0);
+      sag = refl;
+      seen = eqb-true (seenOf (halfAt s xs) k b) 3 (seen-both (halfAt s xs) k b ∙ p .1);
+    } in
+    rw (reason-of s (eventFrom s xs Sag k) scorable)
+
+cells-grown : (t : Table) (xs : List ℤ) → length (t .cells) ≡ cells
+    → total (grown t xs .cells) ≡ total (t .cells) + count (isPlaced (t .settings) (halfAt (t .settings) xs) (halvesOf (t .settings) xs)) (halvesOf (t .settings) xs)
+unfolding grown
+cells-grown t xs forty =
+    let g = placedIn (t .settings) xs in
+    cells-sum g (t .cells) 0
+    ∙ rw forty
+    (ap (λ x. total (t .cells) + x)
+    (sum-same (λ j. g (0 + j)) g cells (λ j l. ap g (omega arith)) ∙ cells-make-up (t .settings) (halfAt (t .settings) xs) (halvesOf (t .settings) xs) (halvesOf (t .settings) xs)))
+
+-- THE LAW: what is sound and takes a recording is sound after it
+pub grown-sound : (t : Table) (xs : List ℤ) → length (t .cells) ≡ cells → addCheck t xs ≡ Accepted → isUnsound (grown t xs) ≡ false
+unfolding grown
+grown-sound t xs forty ok =
+    let s = t .settings in
+    let h = halfAt s xs in
+    let n = halvesOf s xs in
+    let a = adds t xs ok in
+    let r = sound-parts t (a .sound) in
+    sound-made (grown t xs)
+    record {
+      good-settings = r .good-settings;
+      total-high = a .fits;
+      classes = omega (arith, r .classes, three-classes s h n);
+      places = omega (arith, r .places, cells-grown t xs forty, placed-or-not s h n n);
+      sags-high = omega (arith, r .sags-high, count-le (starts s h Sag) n);
+      interruptions-high = omega (arith, r .interruptions-high, count-le (starts s h Interruption) n);
+      swells-high = omega (arith, r .swells-high, count-le (starts s h Swell) n);
+      stray-high = omega (arith, r .stray-high, stray-few s h n n);
+      shortfall-high = omega (arith, r .shortfall-high, shortfalls-agree s xs, sag-short-high s xs, mul-add (3 * full s) (t .total) n, mul-comm n (3 * full s));
+    }
+
+-- ---- a fresh table
+
+pub fresh-good : (s : Settings) → settingsGood s ≡ true → (freshened s .answer ≡ Accepted) × (freshened s .table ≡ empty s)
+unfolding freshened settingsCheck
+fresh-good s g = (rw g, rw g)
+
+pub empty-sound : (s : Settings) → settingsGood s ≡ true → isUnsound (empty s) ≡ false
+empty-sound s g =
+    sound-made (empty s)
+    record {
+      good-settings = g;
+      total-high = omega arith;
+      classes = refl;
+      places = refl;
+      sags-high = omega arith;
+      interruptions-high = omega arith;
+      swells-high = omega arith;
+      stray-high = omega arith;
+      shortfall-high = omega arith;
+    }
+
+-- a refused making hands back zeros, and these are unsound
+pub fresh-bad : (s : Settings) → settingsGood s ≡ false → isUnsound (freshened s .table) ≡ true
+unfolding freshened settingsCheck isUnsound settingsGood badSetting
+fresh-bad s g = rw g
+
+-- ---- what grew from a fresh table
+
+pub record Grown (s : Settings) (t : Table) : Type 0 where
+  pub settings : t .settings ≡ s
+  pub forty : length (t .cells) ≡ cells
+  pub sound : isUnsound t ≡ false
+
+settings-same : (t : Table) (xs : List ℤ) → grown t xs .settings ≡ t .settings
+unfolding grown
+settings-same t xs = refl
+
+still-forty : (t : Table) (xs : List ℤ) → length (grown t xs .cells) ≡ length (t .cells)
+unfolding grown
+still-forty t xs = cells-length (placedIn (t .settings) xs) (t .cells) 0
+
+pub grown-keeps : (s : Settings) (t : Table) (xs : List ℤ) → Grown s t → addCheck t xs ≡ Accepted → Grown s (grown t xs)
+grown-keeps s t xs r ok =
+    record { settings = settings-same t xs ∙ r .settings; forty = still-forty t xs ∙ r .forty; sound = grown-sound t xs (r .forty) ok }
+
+pub fresh-grown : (s : Settings) → settingsGood s ≡ true → Grown s (empty s)
+fresh-grown s g = record { settings = refl; forty = refl; sound = empty-sound s g }
+
+-- which recordings are taken, told with no table: s its settings, n the half-cycles so far
+abbrev pub admits : Settings → ℕ → List ℤ → Taken
+admits s n xs = andThen (recordingCheck s xs) (cond (ltb mostHalves (n + halvesOf s xs)) (Refused (Full (mostHalves - n))) Accepted)
+
+abbrev pub admitted : Settings → ℕ → List (List ℤ) → List (List ℤ)
+admitted s n [] = []
+admitted s n (xs ∷ rs) =
+    let more = admitted s (n + halvesOf s xs) rs in
+    let same = admitted s n rs in
+    byCheck (admits s n xs) (xs ∷ more) (λ r. same)
+
+module _ (s : Settings) where
+  -- a table that grew refuses a recording only for what the recording is, or because it is full
+  pub check-is : (t : Table) (xs : List ℤ) → Grown s t → addCheck t xs ≡ admits s (t .total) xs
+  unfolding addCheck soundCheck fullCheck
+  check-is t xs r = rw (r .sound, r .settings)
+
+  total-grown : (t : Table) (xs : List ℤ) → Grown s t → grown t xs .total ≡ t .total + halvesOf s xs
+  unfolding grown
+  total-grown t xs r = rw (r .settings)
+
+  pub taken-is : (t : Table) (rs : List (List ℤ)) → Grown s t → taken t rs ≡ admitted s (t .total) rs
+  unfolding added
+  taken-is t [] r = refl
+  taken-is t (xs ∷ rs) r =
+      rw (← (check-is t xs r)) (go (addCheck t xs) refl (λ h. taken-is (grown t xs) rs (grown-keeps s t xs r h)) (taken-is t rs r))
+    where
+      go : (c : Taken) → addCheck t xs ≡ c
+          → (addCheck t xs ≡ Accepted → taken (grown t xs) rs ≡ admitted s (grown t xs .total) rs) → taken t rs ≡ admitted s (t .total) rs
+          → byCheck c (xs ∷ taken (byCheck c (grown t xs) (λ r. t)) rs) (λ q. taken (byCheck c (grown t xs) (λ r. t)) rs)
+          ≡ byCheck c (xs ∷ admitted s (t .total + halvesOf s xs) rs) (λ q. admitted s (t .total) rs)
+      go Accepted h more same = ap (λ l. xs ∷ l) (more h ∙ rw (total-grown t xs r))
+      go (Refused q) h more same = same
+
+module _ (s : Settings) (g : settingsGood s ≡ true) (rs : List (List ℤ)) where
+  -- THE LAW: it keeps its settings and its forty cells, and is never unsound
+  pub stays-grown : Grown s (offer (empty s) rs)
+  stays-grown = offer-keeps (Grown s) (grown-keeps s) (empty s) rs (fresh-grown s g)
+
+  pub stays-sound : isUnsound (offer (empty s) rs) ≡ false
+  stays-sound = stays-grown .sound
+
+  -- so which are taken is told by the recordings alone
+  pub taken-admitted : taken (empty s) rs ≡ admitted s 0 rs
+  taken-admitted = taken-is s (empty s) rs (fresh-grown s g)
+
+-- ---- what the table holds, told from the recordings it took
+
+-- each count its own, each straight from the samples
+pub record Tally (s : Settings) (t : Table) (ok : List (List ℤ)) : Type 0 where
+  pub settings : t .settings ≡ s
+  pub total : t .total ≡ over (halvesOf s) ok
+  pub healthy : t .healthy ≡ over (λ xs. count (isHealthy s (halfAt s xs)) (halvesOf s xs)) ok
+  pub disturbed : t .disturbed ≡ over (λ xs. count (isDisturbed s (halfAt s xs)) (halvesOf s xs)) ok
+  pub unknown : t .unknown ≡ over (λ xs. count (isUnknown s (halfAt s xs)) (halvesOf s xs)) ok
+  pub forty : length (t .cells) ≡ cells
+  pub placed : (i : ℕ) → i < cells → getD (t .cells) i 0 ≡ over (λ xs. placedIn s xs i) ok
+  pub unplaced : t .unplaced ≡ over (λ xs. count (isUnplaced s (halfAt s xs) (halvesOf s xs)) (halvesOf s xs)) ok
+  pub sags : t .sags ≡ over (λ xs. count (starts s (halfAt s xs) Sag) (halvesOf s xs)) ok
+  pub interruptions : t .interruptions ≡ over (λ xs. count (starts s (halfAt s xs) Interruption) (halvesOf s xs)) ok
+  pub swells : t .swells ≡ over (λ xs. count (starts s (halfAt s xs) Swell) (halvesOf s xs)) ok
+  pub stray : t .stray ≡ over (λ xs. count (isStray s (halfAt s xs) (halvesOf s xs)) (halvesOf s xs)) ok
+  pub shortfall : t .shortfall ≡ over (sagShort s) ok
+
+module _ (s : Settings) (g : settingsGood s ≡ true) (rs : List (List ℤ)) where
+  counted : (f : Table → ℕ) (add : List ℤ → ℕ) → ((t : Table) (xs : List ℤ) → Grown s t → f (grown t xs) ≡ f t + add xs)
+      → f (empty s) ≡ 0 → f (offer (empty s) rs) ≡ over add (taken (empty s) rs)
+  counted f add step none =
+      offer-adds (Grown s) (grown-keeps s) f add step (empty s) rs (fresh-grown s g) ∙ omega arith
+
+  -- THE LAW: offered any recordings in any sequence
+  pub offered : Tally s (offer (empty s) rs) (taken (empty s) rs)
+  unfolding grown
+  offered =
+      record {
+        settings = stays-grown s g rs .settings;
+        total = counted (λ t. t .total) (halvesOf s) (λ t xs r. rw (r .settings)) refl;
+        healthy = counted (λ t. t .healthy) (λ xs. count (isHealthy s (halfAt s xs)) (halvesOf s xs)) (λ t xs r. rw (r .settings)) refl;
+        disturbed = counted (λ t. t .disturbed) (λ xs. count (isDisturbed s (halfAt s xs)) (halvesOf s xs)) (λ t xs r. rw (r .settings)) refl;
+        unknown = counted (λ t. t .unknown) (λ xs. count (isUnknown s (halfAt s xs)) (halvesOf s xs)) (λ t xs r. rw (r .settings)) refl;
+        forty = stays-grown s g rs .forty;
+        placed = λ i l. counted (λ t. getD (t .cells) i 0) (λ xs. placedIn s xs i) (λ t xs r. cell-adds i l t xs r) (getD-replicate cells i 0 0 l);
+        unplaced = counted (λ t. t .unplaced) (λ xs. count (isUnplaced s (halfAt s xs) (halvesOf s xs)) (halvesOf s xs)) (λ t xs r. rw (r .settings)) refl;
+        sags = counted (λ t. t .sags) (λ xs. count (starts s (halfAt s xs) Sag) (halvesOf s xs)) (λ t xs r. rw (r .settings)) refl;
+        interruptions = counted (λ t. t .interruptions) (λ xs. count (starts s (halfAt s xs) Interruption) (halvesOf s xs)) (λ t xs r. rw (r .settings)) refl;
+        swells = counted (λ t. t .swells) (λ xs. count (starts s (halfAt s xs) Swell) (halvesOf s xs)) (λ t xs r. rw (r .settings)) refl;
+        stray = counted (λ t. t .stray) (λ xs. count (isStray s (halfAt s xs) (halvesOf s xs)) (halvesOf s xs)) (λ t xs r. rw (r .settings)) refl;
+        shortfall = counted (λ t. t .shortfall) (sagShort s) (λ t xs r. rw (r .settings) (ap (λ x. t .shortfall + x) (shortfalls-agree s xs))) refl;
+      }
+    where
+      cell-adds : (i : ℕ) → i < cells → (t : Table) (xs : List ℤ) → Grown s t → getD (grown t xs .cells) i 0 ≡ getD (t .cells) i 0 + placedIn s xs i
+      cell-adds i l t xs r =
+          let q : 0 + i ≡ i = omega arith in
+          cells-at (placedIn (t .settings) xs) (t .cells) 0 i (omega (arith, r .forty)) ∙ rw (q, r .settings)
+
+  -- the three classes make up all, and the cells with the unplaced all sags
+  pub classes-make-up : offer (empty s) rs .healthy + offer (empty s) rs .disturbed + offer (empty s) rs .unknown ≡ offer (empty s) rs .total
+  classes-make-up = sound-parts (offer (empty s) rs) (stays-sound s g rs) .classes
+
+  pub places-make-up : total (offer (empty s) rs .cells) + offer (empty s) rs .unplaced ≡ offer (empty s) rs .sags
+  places-make-up = sound-parts (offer (empty s) rs) (stays-sound s g rs) .places
+
+-- two tables that hold this are one
+pub tally-one : (s : Settings) (t u : Table) (ok : List (List ℤ)) → Tally s t ok → Tally s u ok → t ≡ u
+tally-one s t u ok x y =
+    let cs : t .cells ≡ u .cells =
+    ext-getD 0 (t .cells) (u .cells) (x .forty ∙ sym (y .forty)) (λ i l. let k : i < cells = omega (arith, x .forty) in x .placed i k ∙ sym (y .placed i k)) in
+    λ i.
+    record {
+      settings = (x .settings ∙ sym (y .settings)) i;
+      total = (x .total ∙ sym (y .total)) i;
+      healthy = (x .healthy ∙ sym (y .healthy)) i;
+      disturbed = (x .disturbed ∙ sym (y .disturbed)) i;
+      unknown = (x .unknown ∙ sym (y .unknown)) i;
+      cells = cs i;
+      unplaced = (x .unplaced ∙ sym (y .unplaced)) i;
+      sags = (x .sags ∙ sym (y .sags)) i;
+      interruptions = (x .interruptions ∙ sym (y .interruptions)) i;
+      swells = (x .swells ∙ sym (y .swells)) i;
+      stray = (x .stray ∙ sym (y .stray)) i;
+      shortfall = (x .shortfall ∙ sym (y .shortfall)) i;
+    }
