@@ -1,0 +1,4 @@
+-- What the proofs of more than one function cite.
+pub mod Signed
+pub mod Sixes
+pub mod Windows

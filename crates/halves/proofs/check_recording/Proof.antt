@@ -1,0 +1,97 @@
+-- Each return is the case of the definition that its tests pick; the flags stand for the search. Assumes nothing.
+use native.Mathlib.Omega.{arith}
+use borrow.Author.Needs.{needs}
+use borrow.Author.Tests.{eq-eqb, ne-eqb, lt-ltb, le-ltb}
+use denote.Ref.{now}
+use Rattle.rules.specs.Refusals.{recordingCheck}
+use Rattle.rules.proofs.Ranges.{good}
+use Rattle.halves.proofs.Windows.{bad-is}
+use Rattle.halves.proofs.check_recording.Statement.{statement}
+use Rattle.halves.proofs.check_recording.Tie as tie
+
+returns : tie.Need-returns
+unfolding recordingCheck
+returns c = rw (ne-eqb _ _ (c .if1 .taken))
+
+returns-2 : tie.Need-returns-2
+unfolding recordingCheck
+returns-2 c = rw (eq-eqb _ _ (c .before .if1 .left), lt-ltb _ _ (c .if2 .taken))
+
+rem-if3 : tie.Need-rem-if3
+rem-if3 c = omega (arith, good (c .before .before .args .s) (c .before .before .pre))
+
+returns-3 : tie.Need-returns-3
+unfolding recordingCheck
+returns-3 c =
+    rw (eq-eqb _ _ (c .before .before .if1 .left), le-ltb _ _ (c .before .if2 .left), ne-eqb _ _ (c .if3 .taken))
+
+count-halves-requires : tie.Need-count-halves-requires
+count-halves-requires c κs = search needs
+
+returns-4 : tie.Need-returns-4
+unfolding recordingCheck
+returns-4 c =
+    let e = c .before .before in
+    rw (
+      eq-eqb _ _ (e .before .before .if1 .left),
+      le-ltb _ _ (e .before .if2 .left),
+      eq-eqb _ _ (e .if3 .left),
+      ← c .before .count-halves .ensures,
+      lt-ltb _ _ (c .if4 .taken),
+    )
+
+all-in-range-requires : tie.Need-all-in-range-requires
+all-in-range-requires c κs = search needs
+
+first-bad-requires : tie.Need-first-bad-requires
+first-bad-requires c κs = search needs
+
+returns-5 : tie.Need-returns-5
+unfolding recordingCheck
+returns-5 c =
+    let d = c .before .before .before in
+    let e = d .before .before in
+    let xs = now (e .before .before .before .args .samples) in
+    rw (
+      eq-eqb _ _ (e .before .before .if1 .left),
+      le-ltb _ _ (e .before .if2 .left),
+      eq-eqb _ _ (e .if3 .left),
+      ← d .before .count-halves .ensures,
+      le-ltb _ _ (d .if4 .left),
+      bad-is xs,
+      ← c .before .before .all-in-range .ensures,
+      c .before .if5 .taken,
+      c .first-bad .ensures,
+    )
+
+returns-6 : tie.Need-returns-6
+unfolding recordingCheck
+returns-6 c =
+    let d = c .before .before in
+    let e = d .before .before in
+    let xs = now (e .before .before .before .args .samples) in
+    rw (
+      eq-eqb _ _ (e .before .before .if1 .left),
+      le-ltb _ _ (e .before .if2 .left),
+      eq-eqb _ _ (e .if3 .left),
+      ← d .before .count-halves .ensures,
+      le-ltb _ _ (d .if4 .left),
+      bad-is xs,
+      ← c .before .all-in-range .ensures,
+      c .if5 .left,
+    )
+
+pub check-recording-spec : {M : Type 1} → statement M
+check-recording-spec =
+    tie.close
+    (tie.spec
+    returns
+    returns-2
+    rem-if3
+    returns-3
+    count-halves-requires
+    returns-4
+    all-in-range-requires
+    first-bad-requires
+    returns-5
+    returns-6)

@@ -1,0 +1,54 @@
+-- The flag says whether one of the samples passed is missing. Assumes nothing.
+use Prim.Native.Nat.{_-_, _≤_}
+use mathlib.Core.Path.{_≡_, refl, ap, _∙_}
+use native.Mathlib.Numerals.{add-one}
+use native.Mathlib.Omega.{arith}
+use borrow.Author.Needs.{needs}
+use denote.Ref.{now}
+use lib.IntN.{pos}
+use lib.ListN.{length, getD}
+use Rattle.rules.specs.Bounded.{any}
+use Rattle.rules.specs.Recorder.{missing}
+use Rattle.halves.specs.Windows.{missingIn}
+use Rattle.halves.proofs.Signed.{missing-is}
+use Rattle.halves.proofs.has_missing.Statement.{statement}
+use Rattle.halves.proofs.has_missing.Tie as tie
+
+abbrev Inv-loop : tie.InvT-loop
+Inv-loop w found₀ i₀ found i = (i ≤ length w) × (found ≡ any (λ j. missing (getD w j (pos 0))) i)
+
+abbrev μ-loop : tie.MeasureT-loop
+μ-loop w found₀ i₀ found i = length w - i
+
+loop-holds : tie.Need-loop-holds Inv-loop μ-loop
+loop-holds c = (omega arith, refl)
+
+mul-found : tie.Need-mul-found Inv-loop μ-loop
+mul-found c = search needs
+
+shared-slice-copy-out-found : tie.Need-shared-slice-copy-out-found Inv-loop μ-loop
+shared-slice-copy-out-found c = search needs
+
+add-i : tie.Need-add-i Inv-loop μ-loop
+add-i c = search needs
+
+loop-less : tie.Need-loop-less Inv-loop μ-loop
+loop-less c = search needs
+
+loop-again : tie.Need-loop-again Inv-loop μ-loop
+loop-again c =
+    let at = c .before .before in
+    let x = getD (now (at .before .args .w)) (at .loop .i) (pos 0) in
+    (omega arith, rw (add-one, missing-is x (record { sfits = c .found .given }), at .loop .inv .1))
+
+returns : tie.Need-returns Inv-loop μ-loop
+unfolding missingIn
+returns c =
+    let w = now (c .before .before .args .w) in
+    let e : c .before .loop .i ≡ length w = omega arith in
+    c .before .loop .inv .1 ∙ ap (any (λ j. missing (getD w j (pos 0)))) e
+
+pub has-missing-spec : {M : Type 1} → statement M
+has-missing-spec =
+    tie.close
+    (tie.spec Inv-loop μ-loop loop-holds mul-found shared-slice-copy-out-found add-i loop-less loop-again returns)

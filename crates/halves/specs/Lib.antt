@@ -1,0 +1,2 @@
+-- What the passes over a run of samples find.
+pub mod Windows
