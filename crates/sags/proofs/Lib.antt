@@ -1,0 +1,9 @@
+pub mod Machine
+pub mod Going
+pub mod Slots
+pub mod Writing
+pub mod Limits
+pub mod Tallies
+pub mod Visits
+pub mod Turns
+pub mod Answers

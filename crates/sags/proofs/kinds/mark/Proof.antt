@@ -1,0 +1,22 @@
+use native.Mathlib.Omega.{arith}
+use Rattle.rules.proofs.Ranges.{square-high, share-high}
+use borrow.Author.Needs.{needs}
+use Rattle.sags.proofs.kinds.mark.Statement.{statement}
+use Rattle.sags.proofs.kinds.mark.Tie as tie
+use Rattle.sags.proofs.kinds.mark.Reads as reads
+use Rattle.sags.proofs.kinds.mark.Lts as lts
+
+-- src/kinds.rt:60:5
+mul-result : tie.Need-mul-result
+mul-result c = omega (arith, square-high _ (c .pre .1))
+
+-- src/kinds.rt:60:5
+mul-result-2 : tie.Need-mul-result-2
+mul-result-2 c = omega (arith, share-high _ _ (c .pre .0) (c .pre .1))
+
+-- src/kinds.rt:56:1
+returns : tie.Need-returns
+returns c = search needs
+
+pub mark-spec : {M : Type 1} → statement M
+mark-spec = tie.close (tie.spec mul-result mul-result-2 returns)

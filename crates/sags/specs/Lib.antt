@@ -1,0 +1,3 @@
+-- The machine that the code runs, as definitions over the rules; proofs/ ties it to them.
+pub mod Kinds
+pub mod Listing

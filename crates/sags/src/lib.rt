@@ -1,0 +1,3 @@
+// The three kinds of event, the event list, the site table.
+pub mod kinds;
+pub mod list;
