@@ -1,0 +1,2 @@
+-- What a view of one channel gives.
+pub mod Channel
