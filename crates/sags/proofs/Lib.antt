@@ -7,3 +7,7 @@ pub mod Tallies
 pub mod Visits
 pub mod Turns
 pub mod Answers
+pub mod Surveys
+pub mod Gains
+pub mod Passes
+pub mod Counts

@@ -102,7 +102,8 @@ pub fn thresholds_of(s: Settings) -> Thresholds
     }
 }
 
-fn min(x: u64, y: u64) -> u64
+// The lesser of two.
+pub(crate) fn min(x: u64, y: u64) -> u64
     ensures { λ r. ⌜ r ≡ least2 x y ⌝ }
 {
     if y < x { y } else { x }

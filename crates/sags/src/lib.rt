@@ -1,3 +1,4 @@
 // The three kinds of event, the event list, the site table.
 pub mod kinds;
 pub mod list;
+pub mod site;

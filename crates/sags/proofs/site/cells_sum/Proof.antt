@@ -1,0 +1,96 @@
+use Prim.Native.Nat.{ℕ, suc, _+_, _-_, _≤_, _<_, min}
+use mathlib.Core.Path.{_≡_, refl, sym, ap, _∙_}
+use native.Mathlib.Nat.{zero-add}
+use native.Mathlib.Omega.{arith}
+use borrow.Author.Needs.{needs}
+use lib.ListN.{length, getD, drop, drop-of-length-le}
+use Rattle.rules.specs.Site.{total}
+use Rattle.sags.proofs.Counts.{cap-step, total-drop}
+use Rattle.sags.proofs.site.cells_sum.Statement.{statement}
+use Rattle.sags.proofs.site.cells_sum.Tie as tie
+use Rattle.sags.proofs.site.cells_sum.Reads as reads
+use Rattle.sags.proofs.site.cells_sum.Lts as lts
+use Rattle.sags.proofs.kinds.min.Reads as min-reads
+
+abbrev Inv-loop : tie.InvT-loop
+Inv-loop most cells top sum₀ i₀ sum i = (i ≤ 40) × (sum ≤ top) × (min (sum + total (drop i cells)) top ≡ min (total cells) top)
+
+abbrev μ-loop : tie.MeasureT-loop
+μ-loop most cells top sum₀ i₀ sum i = 40 - i
+
+-- src/site.rt:283:15
+add-top : tie.Need-add-top Inv-loop μ-loop
+add-top c = search needs
+
+-- src/site.rt:286:5
+loop-holds : tie.Need-loop-holds Inv-loop μ-loop
+loop-holds c = (omega arith, omega arith, rw zero-add)
+
+-- src/site.rt:287:29
+mul-min : tie.Need-mul-min Inv-loop μ-loop
+mul-min c = search needs
+
+-- src/site.rt:287:29
+array-read-min : tie.Need-array-read-min Inv-loop μ-loop
+array-read-min c = search needs
+
+-- src/site.rt:287:25
+min-requires : tie.Need-min-requires Inv-loop μ-loop
+min-requires c κs = search needs
+
+-- src/site.rt:287:19
+add-min : tie.Need-add-min Inv-loop μ-loop
+add-min c = search needs
+
+-- src/site.rt:287:9
+min-requires-2 : tie.Need-min-requires-2 Inv-loop μ-loop
+min-requires-2 c κs = search needs
+
+-- src/site.rt:288:9
+add-i : tie.Need-add-i Inv-loop μ-loop
+add-i c = search needs
+
+-- src/site.rt:286:5
+loop-less : tie.Need-loop-less Inv-loop μ-loop
+loop-less c = search needs
+
+-- src/site.rt:286:5
+loop-again : tie.Need-loop-again Inv-loop μ-loop
+loop-again c =
+    let cs = c .before .before .before .before .args .t1 in
+    let l = c .before .before .before .loop in
+    let forty : length cs ≡ 40 = search needs in
+    let i : l .i < length cs = omega arith in
+    let top = c .before .before .before .before .args .most + 1 in (
+      omega arith,
+      omega (arith, c .min2 .ensures),
+      rw (c .min2 .ensures, c .before .min .ensures)
+          (cap-step (l .sum) (getD cs (l .i) 0) (total (drop (l .i + 1) cs)) (total cs) top (l .inv .1) (rw (← total-drop cs (l .i) i) (l .inv .2))),
+    )
+
+-- src/site.rt:279:1
+returns : tie.Need-returns Inv-loop μ-loop
+returns c =
+    let cs = c .before .before .args .t1 in
+    let l = c .before .loop in
+    let forty : length cs ≡ 40 = search needs in
+    let none : total (drop (l .i) cs) ≡ 0 = rw (drop-of-length-le cs {i = l .i} (omega arith)) in
+    omega (arith, l .inv .1, l .inv .2, none)
+
+pub cells-sum-spec : {M : Type 1} → statement M
+cells-sum-spec =
+    tie.close
+    (tie.spec
+    Inv-loop
+    μ-loop
+    add-top
+    loop-holds
+    mul-min
+    array-read-min
+    min-requires
+    add-min
+    min-requires-2
+    add-i
+    loop-less
+    loop-again
+    returns)
