@@ -1,0 +1,2 @@
+-- The boundary's laws.
+pub mod Tables

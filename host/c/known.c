@@ -1,0 +1,289 @@
+/*
+ * Calls every function of burrcradle.h on the known answers and on what is turned away, prints each known answer's reason
+ * and cell, and exits with 1 where anything is not as the tables below have it. The numbers are those of the rules; nothing
+ * here works out an answer.
+ */
+#include "burrcradle.h"
+
+#include <stdio.h>
+#include <stdlib.h>
+#include <string.h>
+
+/* N 8, R 1000, f 50, thresholds 90, 10, 110, hysteresis 2. */
+static const uint64_t settings[7] = {8, 1000, 50, 90, 10, 110, 2};
+
+#define SETTINGS(s) (s)[0], (s)[1], (s)[2], (s)[3], (s)[4], (s)[5], (s)[6]
+#define EVENT(e) (e)[0], (e)[1], (e)[2], (e)[3], (e)[4], (e)[5], (e)[6], (e)[7]
+
+/* A block is four samples of each channel. */
+#define BLOCK 12
+#define MOST_BLOCKS 8
+#define MOST_EVENTS 2
+
+/* The lent run has room for one number more than two events. */
+#define ROOM (MOST_EVENTS * BURR_EVENT + 1)
+
+struct answer {
+    uint64_t words[BURR_EVENT];
+    uint64_t reason;
+    uint64_t cell;
+    double severity, energy;
+};
+
+struct known {
+    const char *name;
+    size_t blocks;
+    /* A value for each block on channel a, and one for b and c. */
+    int32_t a[MOST_BLOCKS], bc[MOST_BLOCKS];
+    /* The index of a missing sample, or -1. */
+    long missing;
+    size_t events;
+    struct answer answers[MOST_EVENTS];
+    /* The site table after it: total, healthy, disturbed, unknown; the cell of its sag, 40 where none is placed; unplaced;
+       sags, interruptions, swells, stray; shortfall. */
+    uint64_t half[4], cell, unplaced, count[4], shortfall;
+};
+
+#define SAME(...) {__VA_ARGS__}, {__VA_ARGS__}
+#define AROUND(v) 6, SAME(1000, 1000, v, v, 1000, 1000)
+#define NONE 40, 0, {0, 0, 0, 0}, 0
+#define UNSCORED(why) why, 40, -1, -1
+
+static const struct known known[] = {
+    {"K1", AROUND(1000), -1, 0, {{{0}, UNSCORED(0)}}, {5, 5, 0, 0}, NONE},
+    {"K2", AROUND(500), -1, 1, {{{1, 1, 4, 3, 2000000, 500, 36000000, 0}, 0, 17, 1, 0.045}},
+     {5, 2, 3, 0}, 17, 0, {1, 0, 0, 0}, 36000000},
+    {"K3", 6, SAME(900, 900, 900, 900, 900, 900), -1, 0, {{{0}, UNSCORED(0)}}, {5, 5, 0, 0}, NONE},
+    {"K4", AROUND(899), -1, 1, {{{1, 2, 3, 3, 6465608, 899, 4603176, 0}, 0, 32, 0.101, 0.005}},
+     {5, 4, 1, 0}, 32, 0, {1, 0, 0, 0}, 4603176},
+    {"K5", 7, SAME(1000, 899, 899, 919, 919, 920, 920), -1, 1,
+     {{{1, 1, 5, 3, 6465608, 899, 4603176, 0}, 0, 33, 0.202, 0.005}},
+     {6, 2, 4, 0}, 33, 0, {1, 0, 0, 0}, 4603176},
+    {"K6", AROUND(0), -1, 2,
+     {{{1, 1, 4, 3, 0, 0, 48000000, 0}, 0, 1, 2, 0.06}, {{2, 2, 3, 3, 0, 0, 0, 0}, UNSCORED(4)}},
+     {5, 2, 3, 0}, 1, 0, {1, 1, 0, 0}, 48000000},
+    {"K7", 6, SAME(1000, 1000, 100, 101, 1000, 1000), -1, 1,
+     {{{1, 1, 4, 3, 80804, 100, 47515176, 0}, 0, 9, 1.8, 0.059}},
+     {5, 2, 3, 0}, 9, 0, {1, 0, 0, 0}, 47515176},
+    {"K8", 4, SAME(500, 500, 1000, 1000), -1, 1, {{{1, 0, 2, 2, 2000000, 500, 27000000, 0}, UNSCORED(1)}},
+     {3, 1, 2, 0}, 40, 1, {1, 0, 0, 0}, 27000000},
+    {"K9", 8, SAME(1000, 1000, 500, 500, 500, 500, 1000, 1000), 4 * BLOCK, 2,
+     {{{1, 1, 3, 1, 2000000, 500, 27000000, 0}, UNSCORED(2)}, {{1, 5, 6, 2, 5000000, 790, 9000000, 0}, UNSCORED(1)}},
+     {7, 2, 3, 2}, 40, 2, {2, 0, 0, 0}, 36000000},
+    {"K10", AROUND(1200), -1, 1, {{{3, 1, 4, 3, 11520000, 1200, 0, 0}, UNSCORED(4)}},
+     {5, 2, 3, 0}, 40, 0, {0, 0, 1, 0}, 0},
+    {"K11", 2, SAME(500, 500), -1, 1, {{{1, 0, 1, 0, 2000000, 500, 18000000, 0}, UNSCORED(3)}},
+     {1, 0, 1, 0}, 40, 1, {1, 0, 0, 0}, 18000000},
+    {"K12", 6, {1000, 1000, 500, 500, 1000, 1000}, {1000, 1000, 1000, 1000, 1000, 1000}, -1, 1,
+     {{{1, 1, 4, 3, 2000000, 500, 12000000, 4}, 0, 17, 1, 0.015}},
+     {5, 2, 3, 0}, 17, 0, {1, 0, 0, 0}, 12000000},
+};
+
+#define CASES (sizeof known / sizeof known[0])
+
+static int wrong = 0;
+
+static void check(int good, const char *name, const char *what)
+{
+    if (!good) {
+        fprintf(stderr, "%s: %s\n", name, what);
+        wrong += 1;
+    }
+}
+
+/* Whether all n numbers are v. */
+static int all(const uint64_t *run, size_t n, uint64_t v)
+{
+    for (size_t i = 0; i < n; i++)
+        if (run[i] != v)
+            return 0;
+    return 1;
+}
+
+static void fill(uint64_t *run, size_t n, uint64_t v)
+{
+    for (size_t i = 0; i < n; i++)
+        run[i] = v;
+}
+
+/* The samples of a case; how many there are. */
+static size_t samples_of(const struct known *k, int32_t *samples)
+{
+    for (size_t i = 0; i < BLOCK * k->blocks; i++)
+        samples[i] = i % 3 == 0 ? k->a[i / BLOCK] : k->bc[i / BLOCK];
+    if (k->missing >= 0)
+        samples[k->missing] = INT32_MIN;
+    return BLOCK * k->blocks;
+}
+
+/* The three questions about one event. */
+static void ask(const char *name, const struct answer *x)
+{
+    double severity = -1, energy = -1;
+    uint64_t reason = burr_reason(SETTINGS(settings), EVENT(x->words));
+    uint64_t cell = burr_cell(SETTINGS(settings), EVENT(x->words));
+    uint64_t why = burr_score(SETTINGS(settings), EVENT(x->words), &severity, &energy);
+    printf("%s: reason %llu, cell %llu", name, (unsigned long long)reason, (unsigned long long)cell);
+    if (why == 0)
+        printf(", severity %g, energy %g s", severity, energy);
+    printf("\n");
+    check(reason == x->reason, name, "reason");
+    check(cell == x->cell, name, "cell");
+    check(why == x->reason, name, "score's reason");
+    check(severity == x->severity, name, "severity");
+    check(energy == x->energy, name, "energy");
+}
+
+/* The list, and each of its events. */
+static void list(const struct known *k)
+{
+    int32_t samples[MOST_BLOCKS * BLOCK];
+    size_t len = samples_of(k, samples);
+    uint64_t events[ROOM], answer = 99;
+    fill(events, ROOM, 9);
+    check(burr_list(SETTINGS(settings), samples, len, events, ROOM, &answer) == 0, k->name, "list refused");
+    check(answer == k->events, k->name, "number of events");
+    for (size_t i = 0; i < k->events; i++) {
+        check(memcmp(&events[BURR_EVENT * i], k->answers[i].words, sizeof k->answers[i].words) == 0, k->name, "words");
+        ask(k->name, &k->answers[i]);
+    }
+    check(all(&events[BURR_EVENT * k->events], ROOM - BURR_EVENT * k->events, 9), k->name, "beyond the last event");
+    if (k->events == 0)
+        printf("%s: no event\n", k->name);
+}
+
+/* The site table of a fresh site to which the case is added. */
+static void site(const struct known *k)
+{
+    int32_t samples[MOST_BLOCKS * BLOCK];
+    size_t len = samples_of(k, samples);
+    uint64_t table[BURR_TABLE], want[BURR_TABLE] = {0}, place = 99;
+    fill(table, BURR_TABLE, 9);
+    check(burr_fresh(SETTINGS(settings), table, &place) == 0 && place == 0, k->name, "fresh");
+    memcpy(want, settings, sizeof settings);
+    check(memcmp(table, want, sizeof want) == 0, k->name, "fresh table");
+    place = 99;
+    check(burr_add(table, samples, len, &place) == 0 && place == 0, k->name, "add");
+    memcpy(&want[7], k->half, sizeof k->half);
+    if (k->cell < BURR_CELLS)
+        want[11 + k->cell] = 1;
+    want[51] = k->unplaced;
+    memcpy(&want[52], k->count, sizeof k->count);
+    want[56] = k->shortfall;
+    check(memcmp(table, want, sizeof want) == 0, k->name, "table");
+}
+
+/* A refusal of both calls that take samples, with all lent memory as it was; `number` 7 is the list's alone. */
+static void refused(const char *name, const int32_t *samples, size_t len, size_t room, uint64_t number, uint64_t place)
+{
+    uint64_t events[ROOM], answer = 99, at = 99, table[BURR_TABLE], kept[BURR_TABLE];
+    fill(events, ROOM, 9);
+    check(burr_list(SETTINGS(settings), samples, len, events, room, &answer) == number, name, "list's number");
+    check(answer == place, name, "list's place");
+    check(all(events, ROOM, 9), name, "list wrote");
+    if (number == 7)
+        return;
+    burr_fresh(SETTINGS(settings), table, &at);
+    memcpy(kept, table, sizeof kept);
+    at = 99;
+    check(burr_add(table, samples, len, &at) == number, name, "add's number");
+    check(at == place, name, "add's place");
+    check(memcmp(table, kept, sizeof kept) == 0, name, "add wrote");
+}
+
+/* Refusals 2 to 7, each where no earlier one applies. */
+static void turned_away(void)
+{
+    int32_t samples[MOST_BLOCKS * BLOCK];
+    size_t len = samples_of(&known[1], samples), long_len = 3 * 4 * 100002;
+    int32_t *zeros = calloc(long_len, sizeof *zeros);
+    if (zeros == NULL)
+        exit(2);
+    refused("length not a multiple of 3", samples, len - 1, ROOM, 2, 0);
+    refused("no samples", samples, 0, ROOM, 3, 0);
+    refused("seven samples a channel", samples, 21, ROOM, 3, 0);
+    refused("nine samples a channel", samples, 27, ROOM, 4, 0);
+    refused("100001 half-cycles", zeros, long_len, ROOM, 5, 0);
+    refused("room 7", samples, len, 7, 7, 1);
+    samples[20] = 100001;
+    refused("a sample 100001", samples, len, ROOM, 6, 20);
+    samples[19] = INT32_MIN + 1;
+    refused("a sample beside missing", samples, len, ROOM, 6, 19);
+    free(zeros);
+}
+
+/* Refusal 1 at each setting in turn, the others good. */
+static void bad_settings(void)
+{
+    static const uint64_t bad[7] = {9, 999, 55, 96, 0, 104, 6};
+    int32_t samples[MOST_BLOCKS * BLOCK];
+    size_t len = samples_of(&known[1], samples);
+    for (size_t i = 0; i < 7; i++) {
+        uint64_t s[7], events[ROOM], table[BURR_TABLE], answer = 99, place = 99;
+        memcpy(s, settings, sizeof s);
+        s[i] = bad[i];
+        fill(events, ROOM, 9);
+        fill(table, BURR_TABLE, 9);
+        check(burr_list(SETTINGS(s), samples, len, events, ROOM, &answer) == 1, "bad setting", "list's number");
+        check(answer == i + 1, "bad setting", "list's place");
+        check(all(events, ROOM, 9), "bad setting", "list wrote");
+        check(burr_fresh(SETTINGS(s), table, &place) == 1, "bad setting", "fresh's number");
+        check(place == i + 1, "bad setting", "fresh's place");
+        check(all(table, BURR_TABLE, 0), "bad setting", "no table of zeros");
+        check(burr_reason(SETTINGS(s), EVENT(known[1].answers[0].words)) == 6, "bad setting", "reason");
+        check(burr_cell(SETTINGS(s), EVENT(known[1].answers[0].words)) == 40, "bad setting", "cell");
+    }
+}
+
+/* Refusals 8 and 9, with the table as it was. */
+static void bad_tables(void)
+{
+    int32_t samples[MOST_BLOCKS * BLOCK];
+    size_t len = samples_of(&known[1], samples);
+    uint64_t table[BURR_TABLE], kept[BURR_TABLE], place = 99;
+    burr_fresh(SETTINGS(settings), table, &place);
+    table[7] = table[8] = 3999996;
+    memcpy(kept, table, sizeof kept);
+    check(burr_add(table, samples, len, &place) == 8 && place == 4, "full table", "answer");
+    check(memcmp(table, kept, sizeof kept) == 0, "full table", "add wrote");
+    table[7] = table[8] = 3999995;
+    check(burr_add(table, samples, len, &place) == 0 && table[7] == 4000000, "last five half-cycles", "answer");
+    table[9] += 1;
+    memcpy(kept, table, sizeof kept);
+    place = 99;
+    check(burr_add(table, samples, len, &place) == 9 && place == 0, "unsound table", "answer");
+    check(memcmp(table, kept, sizeof kept) == 0, "unsound table", "add wrote");
+    fill(table, BURR_TABLE, UINT64_MAX);
+    check(burr_add(table, samples, len, &place) == 9 && place == 0, "largest table", "answer");
+    check(all(table, BURR_TABLE, UINT64_MAX), "largest table", "add wrote");
+}
+
+/* The largest numbers: reason 5 under good settings, 6 under settings that are the largest too. */
+static void largest(void)
+{
+    static const uint64_t most[8] = {UINT64_MAX, UINT64_MAX, UINT64_MAX, UINT64_MAX,
+                                     UINT64_MAX, UINT64_MAX, UINT64_MAX, UINT64_MAX};
+    double severity = -1, energy = -1;
+    check(burr_reason(SETTINGS(settings), EVENT(most)) == 5, "largest event", "reason");
+    check(burr_cell(SETTINGS(settings), EVENT(most)) == 40, "largest event", "cell");
+    check(burr_score(SETTINGS(settings), EVENT(most), &severity, &energy) == 5, "largest event", "score's reason");
+    check(burr_reason(SETTINGS(most), EVENT(most)) == 6, "largest numbers", "reason");
+    check(burr_cell(SETTINGS(most), EVENT(most)) == 40, "largest numbers", "cell");
+    check(burr_score(SETTINGS(most), EVENT(most), &severity, &energy) == 6, "largest numbers", "score's reason");
+    check(severity == -1 && energy == -1, "largest numbers", "a float written");
+}
+
+int main(void)
+{
+    for (size_t i = 0; i < CASES; i++) {
+        list(&known[i]);
+        site(&known[i]);
+    }
+    turned_away();
+    bad_settings();
+    bad_tables();
+    largest();
+    if (wrong > 0)
+        fprintf(stderr, "%d not as known\n", wrong);
+    return wrong > 0;
+}

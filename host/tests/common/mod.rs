@@ -1,0 +1,25 @@
+//! The recordings of the known answers: N 8, R 1,000, f 50, thresholds 90, 10, 110, hysteresis 2.
+#![allow(dead_code)]
+use host::Settings;
+
+pub const SETTINGS: Settings = Settings { n: 8, r: 1000, f: 50, sag: 90, interruption: 10, swell: 110, hysteresis: 2 };
+
+pub const MISSING: i32 = i32::MIN;
+
+/// How many numbers a block has: four samples of three channels.
+pub const BLOCK: usize = 12;
+
+/// Blocks of four equal samples, with a value for channel a and one for b and c.
+pub fn blocks_of(values: &[(i32, i32)]) -> Vec<i32> {
+    values.iter().flat_map(|&(a, b)| [a, b, b].repeat(4)).collect()
+}
+
+/// Blocks of four equal samples, channels equal.
+pub fn blocks(values: &[i32]) -> Vec<i32> {
+    blocks_of(&values.iter().map(|&v| (v, v)).collect::<Vec<_>>())
+}
+
+/// 1000 1000 v v 1000 1000.
+pub fn dip(v: i32) -> Vec<i32> {
+    blocks(&[1000, 1000, v, v, 1000, 1000])
+}

@@ -1,0 +1,166 @@
+//! The known answers K1 to K12, through every function of the proved library. The numbers are those of the rules.
+mod common;
+use common::{blocks, blocks_of, dip, BLOCK, MISSING, SETTINGS};
+use host::{add, cell, fresh, list, reason, score, Event, Score, TABLE};
+
+/// What is known of one event: its numbers, its reason, its cell, and severity and energy where it has a score.
+struct Answer {
+    words: Event,
+    reason: u64,
+    cell: u64,
+    score: Option<(f64, f64)>,
+}
+
+fn scored(words: Event, cell: u64, severity: f64, energy: f64) -> Answer {
+    Answer { words, reason: 0, cell, score: Some((severity, energy)) }
+}
+
+fn unscored(words: Event, reason: u64) -> Answer {
+    Answer { words, reason, cell: 40, score: None }
+}
+
+/// What is known of a fresh site's table after a recording. `cell` is that of its sag: 40 where none is placed.
+#[derive(Default)]
+struct Site {
+    total: u64,
+    healthy: u64,
+    disturbed: u64,
+    unknown: u64,
+    cell: usize,
+    unplaced: u64,
+    sags: u64,
+    interruptions: u64,
+    swells: u64,
+    shortfall: u64,
+}
+
+/// No placed sag among so many half-cycles.
+fn site(total: u64, healthy: u64, disturbed: u64) -> Site {
+    Site { total, healthy, disturbed, cell: 40, ..Site::default() }
+}
+
+fn known(samples: &[i32], answers: &[Answer], site: Site) {
+    let mut events = [9; 17];
+    assert_eq!(list(&SETTINGS, samples, &mut events), Ok(answers.len() as u64));
+    let mut want = [9; 17];
+    for (i, answer) in answers.iter().enumerate() {
+        want[8 * i..8 * i + 8].copy_from_slice(&answer.words);
+    }
+    assert_eq!(events, want);
+    for answer in answers {
+        asked(answer);
+    }
+    tabled(samples, site);
+}
+
+fn asked(answer: &Answer) {
+    assert_eq!(reason(&SETTINGS, &answer.words), answer.reason);
+    assert_eq!(cell(&SETTINGS, &answer.words), answer.cell);
+    let want = answer.score.map(|(severity, energy)| Score { severity, energy });
+    assert_eq!(score(&SETTINGS, &answer.words), want.ok_or(answer.reason));
+}
+
+fn tabled(samples: &[i32], site: Site) {
+    let mut want = [0; TABLE];
+    want[..7].copy_from_slice(&[8, 1000, 50, 90, 10, 110, 2]);
+    let (made, mut table) = fresh(&SETTINGS);
+    assert_eq!((made, table), (Ok(()), want));
+    assert_eq!(add(&mut table, samples), Ok(()));
+    want[7..11].copy_from_slice(&[site.total, site.healthy, site.disturbed, site.unknown]);
+    if site.cell < 40 {
+        want[11 + site.cell] = 1;
+    }
+    want[51..].copy_from_slice(&[site.unplaced, site.sags, site.interruptions, site.swells, 0, site.shortfall]);
+    assert_eq!(table, want);
+}
+
+#[test]
+fn k1() {
+    known(&blocks(&[1000; 6]), &[], site(5, 5, 0));
+}
+
+#[test]
+fn k2() {
+    let sag = scored([1, 1, 4, 3, 2000000, 500, 36000000, 0], 17, 1.0, 0.045);
+    known(&dip(500), &[sag], Site { cell: 17, sags: 1, shortfall: 36000000, ..site(5, 2, 3) });
+}
+
+#[test]
+fn k3() {
+    known(&blocks(&[900; 6]), &[], site(5, 5, 0));
+}
+
+#[test]
+fn k4() {
+    let sag = scored([1, 2, 3, 3, 6465608, 899, 4603176, 0], 32, 0.101, 0.005);
+    known(&dip(899), &[sag], Site { cell: 32, sags: 1, shortfall: 4603176, ..site(5, 4, 1) });
+}
+
+#[test]
+fn k5() {
+    let sag = scored([1, 1, 5, 3, 6465608, 899, 4603176, 0], 33, 0.202, 0.005);
+    let samples = blocks(&[1000, 899, 899, 919, 919, 920, 920]);
+    known(&samples, &[sag], Site { cell: 33, sags: 1, shortfall: 4603176, ..site(6, 2, 4) });
+}
+
+#[test]
+fn k6() {
+    let sag = scored([1, 1, 4, 3, 0, 0, 48000000, 0], 1, 2.0, 0.06);
+    let interruption = unscored([2, 2, 3, 3, 0, 0, 0, 0], 4);
+    let after = Site { cell: 1, sags: 1, interruptions: 1, shortfall: 48000000, ..site(5, 2, 3) };
+    known(&dip(0), &[sag, interruption], after);
+}
+
+#[test]
+fn k7() {
+    let sag = scored([1, 1, 4, 3, 80804, 100, 47515176, 0], 9, 1.8, 0.059);
+    let samples = blocks(&[1000, 1000, 100, 101, 1000, 1000]);
+    known(&samples, &[sag], Site { cell: 9, sags: 1, shortfall: 47515176, ..site(5, 2, 3) });
+}
+
+#[test]
+fn k8() {
+    let sag = unscored([1, 0, 2, 2, 2000000, 500, 27000000, 0], 1);
+    let samples = blocks(&[500, 500, 1000, 1000]);
+    known(&samples, &[sag], Site { unplaced: 1, sags: 1, shortfall: 27000000, ..site(3, 1, 2) });
+}
+
+#[test]
+fn k9() {
+    let first = unscored([1, 1, 3, 1, 2000000, 500, 27000000, 0], 2);
+    let second = unscored([1, 5, 6, 2, 5000000, 790, 9000000, 0], 1);
+    let mut samples = blocks(&[1000, 1000, 500, 500, 500, 500, 1000, 1000]);
+    samples[4 * BLOCK] = MISSING;
+    let after = Site { unknown: 2, unplaced: 2, sags: 2, shortfall: 36000000, ..site(7, 2, 3) };
+    known(&samples, &[first, second], after);
+}
+
+#[test]
+fn k10() {
+    let swell = unscored([3, 1, 4, 3, 11520000, 1200, 0, 0], 4);
+    known(&dip(1200), &[swell], Site { swells: 1, ..site(5, 2, 3) });
+}
+
+#[test]
+fn k11() {
+    let sag = unscored([1, 0, 1, 0, 2000000, 500, 18000000, 0], 3);
+    known(&blocks(&[500, 500]), &[sag], Site { unplaced: 1, sags: 1, shortfall: 18000000, ..site(1, 0, 1) });
+}
+
+#[test]
+fn k12() {
+    let sag = scored([1, 1, 4, 3, 2000000, 500, 12000000, 4], 17, 1.0, 0.015);
+    let healthy = (1000, 1000);
+    let samples = blocks_of(&[healthy, healthy, (500, 1000), (500, 1000), healthy, healthy]);
+    known(&samples, &[sag], Site { cell: 17, sags: 1, shortfall: 12000000, ..site(5, 2, 3) });
+}
+
+#[test]
+fn two_recordings_add_up() {
+    let (_, mut table) = fresh(&SETTINGS);
+    assert_eq!(add(&mut table, &dip(500)), Ok(()));
+    assert_eq!(add(&mut table, &dip(0)), Ok(()));
+    assert_eq!(table[7..11], [10, 4, 6, 0]);
+    assert_eq!((table[11 + 17], table[11 + 1]), (1, 1));
+    assert_eq!(table[51..], [0, 2, 1, 0, 0, 84000000]);
+}
