@@ -1,0 +1,155 @@
+//! libFuzzer's entry: bytes become a case, and the second program judges the proved library on it. The instrumentation
+//! sits in the second program, so the fuzzer looks for bytes that take a new way through the rules.
+use oracle::compare::{differs, explain, Case};
+use oracle::recording::MISSING;
+use oracle::score::retained;
+use oracle::{Settings, Table};
+
+/// The bytes, read from the front; past the end they are zeros.
+struct Bytes<'a>(&'a [u8]);
+
+impl Bytes<'_> {
+    fn take<const LENGTH: usize>(&mut self) -> [u8; LENGTH] {
+        let (mut taken, length) = ([0; LENGTH], LENGTH.min(self.0.len()));
+        taken[..length].copy_from_slice(&self.0[..length]);
+        self.0 = &self.0[length..];
+        taken
+    }
+
+    fn byte(&mut self) -> u64 {
+        u64::from(self.take::<1>()[0])
+    }
+
+    fn half_word(&mut self) -> u64 {
+        u64::from(u16::from_le_bytes(self.take()))
+    }
+
+    fn word(&mut self) -> u64 {
+        u64::from_le_bytes(self.take())
+    }
+}
+
+/// One input.
+///
+/// # Safety
+/// The fuzzer hands over a pointer and the length of what it points to.
+#[no_mangle]
+pub unsafe extern "C" fn LLVMFuzzerTestOneInput(data: *const u8, length: usize) -> i32 {
+    let bytes = if length == 0 { &[] } else { std::slice::from_raw_parts(data, length) };
+    let case = case(&mut Bytes(bytes));
+    if differs(&case) {
+        println!("difference: {}", explain(&case));
+        std::process::abort();
+    }
+    0
+}
+
+fn case(bytes: &mut Bytes) -> Case {
+    let asked = bytes.byte();
+    let settings = settings(bytes);
+    match asked % 4 {
+        0 | 1 => {
+            let room = bytes.byte() as usize;
+            Case::List { settings, samples: samples(bytes, &settings), room }
+        }
+        2 => {
+            let table = table(bytes, &settings);
+            Case::Add { table, samples: samples(bytes, &settings) }
+        }
+        _ => {
+            let mut event = [0; 8].map(|_: u64| bytes.word());
+            // Found by chance once in a while only; the upper half of the first byte says whether it is put right.
+            if asked >= 128
+                && oracle::settings::first_bad(&settings).is_none()
+                && event[4] <= settings.n * 10_000_000_000
+            {
+                event[5] = retained(&settings, event[4]);
+            }
+            Case::Score { settings, event }
+        }
+    }
+}
+
+/// Good settings, unless the first byte says that they are any words.
+fn settings(bytes: &mut Bytes) -> Settings {
+    if bytes.byte() == 255 {
+        let [n, r, f, sag, interruption, swell, hysteresis] = [0; 7].map(|_: u64| bytes.word());
+        return Settings { n, r, f, sag, interruption, swell, hysteresis };
+    }
+    Settings {
+        n: 8 + 2 * (bytes.byte() % 32),
+        r: 100 * (10 + bytes.byte() % 250),
+        f: 50 + 10 * (bytes.byte() % 2),
+        sag: 50 + bytes.byte() % 46,
+        interruption: 1 + bytes.byte() % 20,
+        swell: 105 + bytes.byte() % 46,
+        hysteresis: bytes.byte() % 6,
+    }
+}
+
+/// A fresh table with a few words overwritten.
+fn table(bytes: &mut Bytes, s: &Settings) -> Table {
+    let mut table = oracle::fresh(s).1;
+    for _ in 0..bytes.byte() % 16 {
+        let i = bytes.byte() as usize % table.len();
+        table[i] = bytes.word();
+    }
+    table
+}
+
+/// A level: any two bytes, or from one byte a percentage that some rule compares with, or one unit beside it. Such levels
+/// would hardly be met by chance.
+fn level(bytes: &mut Bytes, s: &Settings, any: bool) -> i32 {
+    if any {
+        let number = bytes.half_word();
+        return if number == 0xffff { MISSING } else { number as i32 };
+    }
+    let (sag, interruption, swell) = (s.sag % 256, s.interruption % 256, s.swell % 256);
+    let h = s.hysteresis % 8;
+    let percentages = [
+        sag,
+        sag + h,
+        interruption,
+        interruption + h,
+        swell,
+        swell.saturating_sub(h),
+        100,
+        100,
+        100,
+        0,
+        10,
+        40,
+        70,
+        85,
+        50,
+        120,
+    ];
+    let choice = bytes.byte();
+    let beside = [0, 0, -1, 1][choice as usize / 16 % 4];
+    (s.r % 65_536 * percentages[choice as usize % 16] / 100) as i32 + beside
+}
+
+/// Some samples anywhere, then blocks of half a cycle, a level for all channels or for each held for a few of them.
+fn samples(bytes: &mut Bytes, s: &Settings) -> Vec<i32> {
+    let strewn: Vec<(u64, i32)> =
+        (0..bytes.byte() % 4).map(|_| (bytes.half_word(), i32::from_le_bytes(bytes.take()))).collect();
+    let ragged = bytes.byte();
+    let per_block = (s.n / 2).clamp(1, 256) as usize;
+    let mut samples = Vec::new();
+    while !bytes.0.is_empty() && samples.len() < 3 * 64 * per_block {
+        let manner = bytes.byte();
+        let any = manner >= 192;
+        let a = level(bytes, s, any);
+        let levels = if manner % 2 == 0 { [a; 3] } else { [a, level(bytes, s, any), level(bytes, s, any)] };
+        let held = 1 + manner as usize / 2 % 4;
+        samples.extend(levels.repeat(held * per_block));
+    }
+    samples.truncate(samples.len().saturating_sub(if ragged < 8 { ragged as usize } else { 0 }));
+    for (index, sample) in strewn {
+        let length = samples.len().max(1);
+        if let Some(place) = samples.get_mut(index as usize % length) {
+            *place = sample;
+        }
+    }
+    samples
+}

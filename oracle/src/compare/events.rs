@@ -1,0 +1,129 @@
+//! Event words for the comparison: from real lists, changed by one, on every border, and anything at all.
+use super::recordings;
+use crate::random::Random;
+use crate::score::retained;
+use crate::settings::{first_bad, reference};
+use crate::{plain, Event, Settings, WORDS};
+
+/// The events of a recording; none where it is refused.
+pub fn listed(s: &Settings, samples: &[i32]) -> Vec<Event> {
+    // A first try without room tells the number of events.
+    let needed = match plain::list(s, samples, &mut []) {
+        Err(refused) if refused.number == 7 => refused.place as usize,
+        _ => 0,
+    };
+    let mut words = vec![0; needed * WORDS];
+    let _ = plain::list(s, samples, &mut words);
+    words.chunks_exact(WORDS).map(|words| words.try_into().unwrap()).collect()
+}
+
+/// Any eight numbers, under settings that may be bad.
+pub fn any(random: &mut Random, s: &Settings) -> Event {
+    let mut event = match random.below(8) {
+        0 => real(random, s),
+        7 => wild(random),
+        _ => bordering(random, s),
+    };
+    if random.once_in(3) {
+        let i = random.below(WORDS as u64) as usize;
+        event[i] = event[i].wrapping_add(random.pick(&[1, u64::MAX]));
+    }
+    event
+}
+
+/// An event of a real recording.
+fn real(random: &mut Random, s: &Settings) -> Event {
+    let samples = recordings::any(random, s);
+    let events = listed(s, &samples);
+    if events.is_empty() {
+        bordering(random, s)
+    } else {
+        random.pick(&events)
+    }
+}
+
+/// An event with each number on a border, beside it, or within its bounds.
+fn bordering(random: &mut Random, s: &Settings) -> Event {
+    if first_bad(s).is_some() {
+        return wild(random);
+    }
+    let h = duration(random, s);
+    let end = match random.below(20) {
+        0 => random.word(),
+        1..=4 => h,
+        5..=8 => 100_000,
+        9 => 100_001,
+        _ => h + random.below(1_000),
+    };
+    let start = end.saturating_sub(h);
+    let kind = random.pick(&[1, 1, 1, 1, 1, 1, 2, 3, 0, 4]);
+    let seen = random.pick(&[3, 3, 3, 3, 3, 0, 1, 2, 4]);
+    let extreme = extreme(random, s);
+    let most = (3 * reference(s) * u128::from(end - start)).min(u128::from(u64::MAX)) as u64;
+    let lost = match random.below(6) {
+        0 => 0,
+        1 => most,
+        2 => most.saturating_add(1),
+        3 => whole_milliseconds(random, s),
+        _ => random.below(most.max(1)),
+    };
+    let (shortfall, class) = if kind == 1 || random.once_in(4) { (lost, random.below(8)) } else { (0, 0) };
+    [kind, start, end, seen, extreme, retained_or_not(random, s, extreme), shortfall, class]
+}
+
+/// A number of half-cycles where the curve steps, a column begins, or anything.
+fn duration(random: &mut Random, s: &Settings) -> u64 {
+    let steps = [1, 2, 3, s.f / 5, 2 * s.f / 5, s.f, 2 * s.f, 6 * s.f, 20 * s.f, 40 * s.f, 120 * s.f, 100_000];
+    match random.below(4) {
+        0 => random.between(0, 60),
+        1 => random.between(0, 100_000),
+        _ => random.pick(&steps) + random.below(3) - 1,
+    }
+}
+
+/// A sum where a row begins, at a threshold, at a retained value's edge, or anything allowed; the first beyond, too.
+fn extreme(random: &mut Random, s: &Settings) -> u64 {
+    let most = s.n * 10_000_000_000;
+    let at = |thousandths: u64| (thousandths * thousandths * s.n * s.r * s.r).div_ceil(1_000_000);
+    let beside = |random: &mut Random, sum: u64| (sum + random.below(3)).saturating_sub(1);
+    match random.below(8) {
+        0..=2 => {
+            let row = random.pick(&[100, 400, 700, 850]);
+            beside(random, at(row))
+        }
+        3 => beside(random, at(10 * s.sag)),
+        4 => {
+            let retained = random.below(1_000);
+            beside(random, at(retained))
+        }
+        5 => random.below(at(10 * s.sag)),
+        6 => random.pick(&[0, 1, most, most + 1]),
+        _ => random.between(0, most),
+    }
+}
+
+/// A shortfall of a whole number of milliseconds, or one unit beside.
+fn whole_milliseconds(random: &mut Random, s: &Settings) -> u64 {
+    let milliseconds = random.below(3_000);
+    let second = reference(s) as u64 * 2 * s.f;
+    (milliseconds * second).div_ceil(1_000).wrapping_add(random.below(3)).wrapping_sub(1)
+}
+
+/// The retained value of the extreme; seldom another.
+fn retained_or_not(random: &mut Random, s: &Settings, extreme: u64) -> u64 {
+    let right = if extreme <= s.n * 10_000_000_000 { retained(s, extreme) } else { 0 };
+    if random.once_in(10) {
+        random.pick(&[right.wrapping_sub(1), right + 1, 0, u64::MAX])
+    } else {
+        right
+    }
+}
+
+/// All ones, all zeros, or any words, large and small.
+fn wild(random: &mut Random) -> Event {
+    match random.below(4) {
+        0 => [u64::MAX; WORDS],
+        1 => [0; WORDS],
+        _ => [0; WORDS].map(|_: u64| random.any_size()),
+    }
+}

@@ -1,0 +1,288 @@
+//! Recordings for the comparison: levels on and beside each border, three-phase sines with sags of every type, noise,
+//! gaps, samples out of range, and lengths that are turned away.
+use crate::random::Random;
+use crate::recording::MISSING;
+use crate::settings::first_bad;
+use crate::Settings;
+use std::f64::consts::PI;
+
+const LIMIT: i32 = 100_000;
+
+/// Any recording for the settings, which may be bad: then what it holds hardly matters.
+pub fn any(random: &mut Random, s: &Settings) -> Vec<i32> {
+    if first_bad(s).is_some() {
+        let length = random.below(200);
+        return (0..length).map(|_| random.signed(-LIMIT, LIMIT)).collect();
+    }
+    let blocks = block_count(random, s);
+    let mut samples = match random.below(10) {
+        0..=5 => levels(random, s, blocks),
+        6 | 7 => sines(random, s, blocks),
+        8 => noise(random, s, blocks),
+        _ => flat(random, s, blocks),
+    };
+    if random.once_in(3) {
+        lose_some(random, s, &mut samples);
+    }
+    if random.once_in(16) {
+        spoil(random, &mut samples);
+    }
+    if random.once_in(12) {
+        fray(random, s, &mut samples);
+    }
+    samples
+}
+
+/// How many blocks of half a cycle: mostly few, since the naive program tries every j; with a small N now and then more.
+fn block_count(random: &mut Random, s: &Settings) -> usize {
+    let most = if s.n <= 32 && random.once_in(40) { 300 } else { 24 };
+    random.between(2, most) as usize
+}
+
+/// A recording as long as allowed, one half-cycle longer, or long enough for the last columns.
+pub fn long(random: &mut Random, s: &Settings) -> Vec<i32> {
+    let halves = match random.below(4) {
+        0 => 100_000,
+        1 => 100_001,
+        2 => 125 * s.f,
+        _ => random.between(1_000, 20_000),
+    };
+    let blocks = halves as usize + 1;
+    let mut samples = Vec::with_capacity(blocks * 3 * s.n as usize / 2);
+    let mut hold = 0;
+    let mut level = [s.r as i32; 3];
+    for _ in 0..blocks {
+        if hold == 0 {
+            hold = random.pick(&[1, 2, 3, 5, 40, 300, 2_000, 6 * s.f, 40 * s.f, 120 * s.f]) + random.below(3);
+            let v = s.r * random.pick(&[0, 5, 10, 39, 41, 69, 84, 91, 100, 100, 100, 112, 130]) / 100;
+            level = if random.once_in(3) { [v as i32, s.r as i32, s.r as i32] } else { [v as i32; 3] };
+        }
+        hold -= 1;
+        for _ in 0..s.n / 2 {
+            samples.extend(level);
+        }
+    }
+    if random.once_in(2) {
+        lose_some(random, s, &mut samples);
+    }
+    samples
+}
+
+/// A run of blocks, each channel's level held for a few blocks and then drawn anew from the borders and beside them.
+fn levels(random: &mut Random, s: &Settings, blocks: usize) -> Vec<i32> {
+    let per_block = s.n as usize / 2;
+    let manner = random.below(4);
+    let mut channels = [vec![], vec![], vec![]];
+    for channel in 0..3 {
+        channels[channel] = match manner {
+            0 if channel > 0 => channels[0].clone(),
+            1 if channel > 0 => vec![block_of(s, 1_000, 0); blocks].concat(),
+            2 if channel == 2 => channels[0].clone(),
+            _ => one_channel(random, s, blocks),
+        };
+    }
+    (0..blocks * per_block).flat_map(|i| [channels[0][i], channels[1][i], channels[2][i]]).collect()
+}
+
+fn one_channel(random: &mut Random, s: &Settings, blocks: usize) -> Vec<i32> {
+    let mut samples = Vec::new();
+    let mut left = blocks;
+    while left > 0 {
+        let hold = (random.between(1, 5) as usize).min(left);
+        let thousandths = border(random, s);
+        let beside = random.pick(&[-1, 0, 0, 1]);
+        // Two neighbouring blocks make a window; only one of them is moved, so that the window is off by one unit.
+        let (moved, still) = (block_of(s, thousandths, beside), block_of(s, thousandths, 0));
+        for i in 0..hold {
+            samples.extend(if i % 2 == 0 { &moved } else { &still });
+        }
+        left -= hold;
+    }
+    samples
+}
+
+/// A level in thousandths of the reference: most often one that some rule compares with.
+fn border(random: &mut Random, s: &Settings) -> u64 {
+    let compared = [
+        10 * s.sag,
+        10 * (s.sag + s.hysteresis),
+        10 * s.interruption,
+        10 * (s.interruption + s.hysteresis),
+        10 * s.swell,
+        10 * (s.swell - s.hysteresis),
+    ];
+    match random.below(8) {
+        0..=3 => random.pick(&compared),
+        4 => random.pick(&[100, 400, 700, 850]),
+        5 => random.pick(&[0, 500, 1_000, 1_000, 1_000, 1_200]),
+        6 => random.pick(&compared) + random.below(7) - 3,
+        _ => random.below(1_600),
+    }
+}
+
+/// Half a cycle of one channel whose squares sum to half of what a window at this level has, plus `beside`. The window's
+/// sum is rounded up, so that with 0 it is the first at or above the level, and with -1 the last below.
+fn block_of(s: &Settings, thousandths: u64, beside: i64) -> Vec<i32> {
+    let window = (thousandths * thousandths * s.n * s.r * s.r).div_ceil(1_000_000);
+    // The two halves of an odd sum differ by one; both being the larger, a window is at most one unit above.
+    let wanted = (window.div_ceil(2) as i64 + beside).max(0) as u64;
+    let count = s.n / 2;
+    let base = (wanted / count).isqrt();
+    let mut block = vec![base as i32; count as usize - 4];
+    let rest = wanted - base * base * (count - 4);
+    let last = squares(rest, 4).expect("every number is the sum of four squares");
+    block.extend(last);
+    // Alternating signs: the squares are the same, and a program that sums before it squares is found out.
+    for sample in block.iter_mut().step_by(2) {
+        *sample = -*sample;
+    }
+    block
+}
+
+/// As many samples, up to four, whose squares sum to `rest`.
+fn squares(rest: u64, count: u64) -> Option<Vec<i32>> {
+    let root = rest.isqrt().min(LIMIT as u64);
+    if count == 1 {
+        return (root * root == rest).then(|| vec![root as i32]);
+    }
+    // Such numbers are no sum of three squares (Legendre) or of two, and the search would go through them all.
+    let without_fours = if rest == 0 { 0 } else { rest >> (rest.trailing_zeros() & !1) };
+    let without_twos = if rest == 0 { 0 } else { rest >> rest.trailing_zeros() };
+    if count == 3 && without_fours % 8 == 7 || count == 2 && without_twos % 4 == 3 {
+        return None;
+    }
+    // Of two squares the larger is tried near the root only: what is left is then small, and sooner a square itself.
+    let tries = if count == 2 { 64 } else { usize::MAX };
+    let mut largest = (0..=root).rev().take_while(|first| count * first * first >= rest).take(tries);
+    largest.find_map(|first| {
+        let mut others = squares(rest - first * first, count - 1)?;
+        others.push(first as i32);
+        Some(others)
+    })
+}
+
+/// Three phasors, as real and imaginary parts in units of the reference.
+pub type Phasors = [(f64, f64); 3];
+
+/// Three-phase voltages before and after a sag.
+const HEALTHY: Phasors = [(1.0, 0.0), (-0.5, -0.866_025_403_784_438_6), (-0.5, 0.866_025_403_784_438_6)];
+
+/// Sines from phasors, one for each block of half a cycle, rounded to samples.
+pub fn three_phase(s: &Settings, blocks: &[Phasors]) -> Vec<i32> {
+    let per_block = s.n as usize / 2;
+    let peak = s.r as f64 * 2f64.sqrt();
+    let mut samples = Vec::new();
+    for (block, phasors) in blocks.iter().enumerate() {
+        for i in 0..per_block {
+            let (sin, cos) = (2.0 * PI * (block * per_block + i) as f64 / s.n as f64).sin_cos();
+            for (re, im) in phasors {
+                let value = peak * (re * cos - im * sin);
+                samples.push((value.round() as i32).clamp(-LIMIT, LIMIT));
+            }
+        }
+    }
+    samples
+}
+
+/// A sag of type A, D or C with its main drop turned to any phase, or a sag with two channels only, or a swell.
+fn disturbed(random: &mut Random) -> Phasors {
+    let v = random.below(1_300) as f64 / 1_000.0;
+    let turn = random.below(3) as usize;
+    let half_root = 3f64.sqrt() / 2.0;
+    let mut phasors = match random.below(4) {
+        0 => HEALTHY.map(|(re, im)| (v * re, v * im)),
+        1 => [(v, 0.0), (-0.5 * v, -half_root), (-0.5 * v, half_root)],
+        2 => [(1.0, 0.0), (-0.5, -half_root * v), (-0.5, half_root * v)],
+        _ => [(v, 0.0), HEALTHY[1], HEALTHY[2]],
+    };
+    phasors.rotate_right(turn);
+    // Each phase has moved on by `turn`, so the whole is turned by as many thirds of a cycle to stay in step.
+    for _ in 0..turn {
+        phasors = phasors.map(|(re, im)| (-0.5 * re + half_root * im, -half_root * re - 0.5 * im));
+    }
+    phasors
+}
+
+fn sines(random: &mut Random, s: &Settings, blocks: usize) -> Vec<i32> {
+    let mut during = Vec::new();
+    while during.len() < blocks {
+        let hold = random.between(1, 8) as usize;
+        let phasors = if random.once_in(2) { HEALTHY } else { disturbed(random) };
+        during.extend(vec![phasors; hold]);
+    }
+    let mut samples = three_phase(s, &during[..blocks]);
+    if random.once_in(3) {
+        let most = (s.r / 50) as i32;
+        for sample in &mut samples {
+            *sample = (*sample + random.signed(-most, most)).clamp(-LIMIT, LIMIT);
+        }
+    }
+    samples
+}
+
+/// Samples over the whole range, or near its ends, or small.
+fn noise(random: &mut Random, s: &Settings, blocks: usize) -> Vec<i32> {
+    let most = random.pick(&[LIMIT, s.r as i32, 2 * s.r as i32, 1, 10]).min(LIMIT);
+    let ends = random.once_in(4);
+    let mut draw = || if ends { random.pick(&[-LIMIT, 0, LIMIT]) } else { random.signed(-most, most) };
+    (0..blocks * 3 * s.n as usize / 2).map(|_| draw()).collect()
+}
+
+/// One value throughout: zero, the reference, an end of the range, or missing.
+fn flat(random: &mut Random, s: &Settings, blocks: usize) -> Vec<i32> {
+    let reference = s.r as i32;
+    let value = random.pick(&[0, reference, -reference, LIMIT, -LIMIT, MISSING, reference / 2]);
+    vec![value; blocks * 3 * s.n as usize / 2]
+}
+
+/// Marks samples as missing: a single one, a block, a few, either end, or all.
+fn lose_some(random: &mut Random, s: &Settings, samples: &mut [i32]) {
+    let length = samples.len();
+    let block = 3 * s.n as usize / 2;
+    let somewhere = random.below(length as u64) as usize;
+    match random.below(8) {
+        0 | 1 => samples[somewhere] = MISSING,
+        2 => {
+            let first = somewhere / block * block;
+            samples[first..first + block].fill(MISSING);
+        }
+        3 => samples[0] = MISSING,
+        4 => samples[length - 1] = MISSING,
+        // On either side of a block's edge, where a window begins or ends.
+        5 => {
+            let edge = somewhere / block * block;
+            samples[edge.saturating_sub(random.below(2) as usize)] = MISSING;
+        }
+        6 => {
+            for _ in 0..random.between(2, 5) {
+                samples[random.below(length as u64) as usize] = MISSING;
+            }
+        }
+        _ if random.once_in(4) => samples.fill(MISSING),
+        _ => samples[..block.min(length)].fill(MISSING),
+    }
+}
+
+/// Puts one or two samples out of range, often by one unit, anywhere or at either end.
+fn spoil(random: &mut Random, samples: &mut [i32]) {
+    for _ in 0..random.between(1, 2) {
+        let last = samples.len() as u64 - 1;
+        let anywhere = random.between(0, last);
+        let at = random.pick(&[0, last, anywhere, anywhere]) as usize;
+        samples[at] = random.pick(&[LIMIT + 1, -LIMIT - 1, i32::MAX, i32::MIN + 1]);
+    }
+}
+
+/// Takes or adds samples so that the length is turned away: ragged, short of a block, too short, none.
+fn fray(random: &mut Random, s: &Settings, samples: &mut Vec<i32>) {
+    let cycle = 3 * s.n as usize;
+    let wanted = match random.below(6) {
+        0 => 0,
+        1 => samples.len() - random.between(1, 2) as usize,
+        2 => samples.len() - 3,
+        3 => cycle - 3,
+        4 => cycle / 2,
+        _ => samples.len() + 3 * random.between(1, s.n / 2) as usize,
+    };
+    samples.resize(wanted, s.r as i32);
+}

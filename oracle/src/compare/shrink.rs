@@ -1,0 +1,98 @@
+//! Cuts a case on which the programs differ down to a short one on which they still do.
+use super::{differs, Case};
+use crate::recording::MISSING;
+use crate::site::{self, at};
+use crate::{Settings, TABLE};
+use std::time::{Duration, Instant};
+
+/// Enough for most cases; what is left of a very long one is printed as far as it got.
+const PATIENCE: Duration = Duration::from_secs(5);
+
+/// The shortest case found from this one, each step still a difference.
+pub fn shortest(mut case: Case) -> Case {
+    let began = Instant::now();
+    while let Some(smaller) = step(&case, began) {
+        case = smaller;
+    }
+    case
+}
+
+/// The first smaller case on which the programs differ, if one is found in time.
+fn step(case: &Case, began: Instant) -> Option<Case> {
+    let mut tried = candidates(case).take_while(|_| began.elapsed() < PATIENCE);
+    tried.find(|smaller| smaller != case && differs(smaller))
+}
+
+/// Smaller cases to try, the boldest first.
+fn candidates(case: &Case) -> Box<dyn Iterator<Item = Case> + '_> {
+    match case {
+        Case::List { settings, samples, room } => {
+            let (settings, room) = (*settings, *room);
+            let rooms = numbers(room as u64).map(move |room| Case::List {
+                settings,
+                samples: samples.clone(),
+                room: room as usize,
+            });
+            let shorter = recordings(settings, samples).map(move |samples| Case::List { settings, samples, room });
+            Box::new(shorter.chain(rooms))
+        }
+        Case::Add { table, samples } => {
+            let settings = site::settings(table);
+            let shorter = recordings(settings, samples).map(move |samples| Case::Add { table: *table, samples });
+            let tables = (at::TOTAL..TABLE).flat_map(move |i| {
+                numbers(table[i]).map(move |word| {
+                    let mut table = *table;
+                    table[i] = word;
+                    Case::Add { table, samples: samples.clone() }
+                })
+            });
+            let fresh = Case::Add { table: site::fresh(&settings).1, samples: samples.clone() };
+            Box::new(shorter.chain([fresh]).chain(tables))
+        }
+        Case::Fresh { .. } => Box::new(std::iter::empty()),
+        Case::Score { settings, event } => Box::new((0..event.len()).flat_map(move |i| {
+            numbers(event[i]).map(move |word| {
+                let mut event = *event;
+                event[i] = word;
+                Case::Score { settings: *settings, event }
+            })
+        })),
+    }
+}
+
+/// Smaller numbers than this one. One less is tried of small ones only: a large one would go down step by step.
+fn numbers(word: u64) -> impl Iterator<Item = u64> {
+    let less = [0, 1, word / 2, word - word / 8, word - word / 128];
+    let one_less = (2..64).contains(&word).then(|| word - 1);
+    less.into_iter().chain(one_less).filter(move |&smaller| smaller < word)
+}
+
+/// Simpler recordings: whole cycles cut out, then blocks, then single sample times; then stretches made flat.
+fn recordings(s: Settings, samples: &[i32]) -> impl Iterator<Item = Vec<i32>> + '_ {
+    let block = (3 * s.n as usize / 2).clamp(1, 1 << 20);
+    let cut = pieces(samples.len(), block).map(|(first, end)| [&samples[..first], &samples[end..]].concat());
+    let flat = [s.r.min(1 << 20) as i32, 0].into_iter().flat_map(move |value| {
+        pieces(samples.len(), block).filter_map(move |(first, end)| {
+            // Never back again: a stretch is made flat only where it is neither flat nor already simpler.
+            let piece = &samples[first..end];
+            let simple = piece.iter().all(|&sample| sample == 0 || sample == value);
+            let lost = piece.contains(&MISSING) && piece.len() > block;
+            (!simple && !lost).then(|| flattened(samples, first, end, value))
+        })
+    });
+    cut.chain(flat)
+}
+
+fn flattened(samples: &[i32], first: usize, end: usize, value: i32) -> Vec<i32> {
+    let mut flat = samples.to_vec();
+    flat[first..end].fill(value);
+    flat
+}
+
+/// Stretches of the run, longest first: halves, quarters and so on down to a block.
+fn pieces(length: usize, block: usize) -> impl Iterator<Item = (usize, usize)> {
+    let blocks = length.div_ceil(block);
+    let sizes =
+        std::iter::successors(Some(blocks / 2), |&size| (size > 1).then_some(size / 2)).filter(|&size| size > 0);
+    sizes.flat_map(move |size| (0..blocks).step_by(size).map(move |at| (at * block, ((at + size) * block).min(length))))
+}

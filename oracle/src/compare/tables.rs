@@ -1,0 +1,129 @@
+//! Site tables for the comparison: fresh, grown, sound to the brim, and unsound by one in each condition.
+use crate::random::Random;
+use crate::recording;
+use crate::settings::reference;
+use crate::site::{at, fresh, FULLEST};
+use crate::{plain, Settings, Table, TABLE};
+
+/// Any table for good settings, and for the recording that will be added to it.
+pub fn any(random: &mut Random, s: &Settings, samples: &[i32]) -> Table {
+    match random.below(12) {
+        0..=2 => fresh(s).1,
+        3 => grown(s, samples),
+        4..=6 => sound(random, s, samples),
+        7..=9 => broken(random, s, samples),
+        10 => wrapped(random, s, samples),
+        _ => wild(random),
+    }
+}
+
+/// A table that has taken this recording once already, where it can be taken.
+fn grown(s: &Settings, samples: &[i32]) -> Table {
+    let mut table = fresh(s).1;
+    // A refused recording leaves the table fresh, which is as good here.
+    let _ = plain::add(&mut table, samples);
+    table
+}
+
+/// A table whose counts merely add up, some of them as large as they may be.
+fn sound(random: &mut Random, s: &Settings, samples: &[i32]) -> Table {
+    let total = total(random, s, samples);
+    let mut table = fresh(s).1;
+    table[at::TOTAL] = total;
+    share(random, total, &mut table[at::HEALTHY..=at::UNKNOWN]);
+    table[at::SAGS..=at::SWELLS].fill_with(|| up_to(random, total));
+    let sags = table[at::SAGS];
+    share(random, sags, &mut table[at::CELLS..=at::UNPLACED]);
+    table[at::STRAY] = up_to(random, table[at::INTERRUPTIONS]);
+    table[at::SHORTFALL] = up_to(random, most_shortfall(s, total));
+    table
+}
+
+/// A total that leaves room for the recording, exactly none over, one too few, or anything.
+fn total(random: &mut Random, s: &Settings, samples: &[i32]) -> u64 {
+    let halves = if samples.len() as u64 / 3 >= s.n { recording::half_cycles(s, samples) } else { 1 };
+    let brim = FULLEST - halves.min(FULLEST);
+    match random.below(7) {
+        0 => brim,
+        1 => brim + 1,
+        2 => FULLEST,
+        3 => 0,
+        4 => random.below(100),
+        _ => random.between(0, FULLEST),
+    }
+}
+
+fn most_shortfall(s: &Settings, total: u64) -> u64 {
+    (3 * reference(s) * u128::from(total)) as u64
+}
+
+fn up_to(random: &mut Random, most: u64) -> u64 {
+    match random.below(4) {
+        0 => 0,
+        1 => most,
+        _ => random.below(most.max(1)),
+    }
+}
+
+/// Shares a sum out among the counts.
+fn share(random: &mut Random, sum: u64, counts: &mut [u64]) {
+    let mut left = sum;
+    for _ in 0..random.between(1, 4) {
+        let part = up_to(random, left);
+        counts[random.below(counts.len() as u64) as usize] += part;
+        left -= part;
+    }
+    counts[random.below(counts.len() as u64) as usize] += left;
+}
+
+/// A sound table with one condition broken, by one wherever that can be.
+fn broken(random: &mut Random, s: &Settings, samples: &[i32]) -> Table {
+    let mut table = sound(random, s, samples);
+    match random.below(12) {
+        0 => table[random.below(7) as usize] = random.pick(&[0, 7, 513, 999, 50_001, 96, 151, u64::MAX]),
+        1 => table[at::TOTAL] += 1,
+        2 => table[random.between(at::HEALTHY as u64, at::UNKNOWN as u64) as usize] += 1,
+        3 => table[random.between(at::CELLS as u64, at::UNPLACED as u64) as usize] += 1,
+        4 => table[at::SAGS] = table[at::SAGS].wrapping_sub(1),
+        5 => {
+            let more = table[at::TOTAL] + 1 - table[at::SAGS];
+            table[at::SAGS] += more;
+            table[at::UNPLACED] += more;
+        }
+        6 => table[at::INTERRUPTIONS] = table[at::TOTAL] + 1,
+        7 => table[at::SWELLS] = table[at::TOTAL] + 1,
+        8 => table[at::STRAY] = table[at::INTERRUPTIONS] + 1,
+        9 => table[at::SHORTFALL] = most_shortfall(s, table[at::TOTAL]) + 1,
+        10 => {
+            let more = FULLEST + 1 - table[at::TOTAL];
+            table[at::TOTAL] += more;
+            table[at::HEALTHY] += more;
+        }
+        _ => {
+            let i = random.between(at::TOTAL as u64, TABLE as u64 - 1) as usize;
+            table[i] = table[i].wrapping_add(random.pick(&[1, u64::MAX]));
+        }
+    }
+    table
+}
+
+/// Counts that add up only if a sum may wrap round.
+fn wrapped(random: &mut Random, s: &Settings, samples: &[i32]) -> Table {
+    let mut table = sound(random, s, samples);
+    let counts = random.pick(&[(at::HEALTHY, at::UNKNOWN), (at::CELLS, at::UNPLACED)]);
+    let large = random.pick(&[u64::MAX, 1 << 63, 1 << 32]);
+    let one = random.between(counts.0 as u64, counts.1 as u64) as usize;
+    let other = if one == counts.0 { counts.1 } else { counts.0 };
+    table[one] = table[one].wrapping_add(large);
+    table[other] = table[other].wrapping_sub(large);
+    table
+}
+
+/// Zeros, all ones, or any words at all.
+fn wild(random: &mut Random) -> Table {
+    match random.below(3) {
+        0 => [0; TABLE],
+        1 => [u64::MAX; TABLE],
+        _ => [0; TABLE].map(|_: u64| random.any_size()),
+    }
+}

@@ -1,0 +1,102 @@
+//! One event: its retained value, the reason why it has no score, its two floats and its cell.
+use crate::recording::LONGEST;
+use crate::settings::{above, below, first_bad, reference};
+use crate::{Event, Score, Settings};
+
+/// The cell of an event that has none.
+pub const NO_CELL: u64 = 40;
+
+/// The largest r with r x r x N x R x R at most 1,000,000 x S: thousandths of R, rounded down.
+pub fn retained(s: &Settings, sum: u64) -> u64 {
+    let fits = |r: u64| u128::from(r) * u128::from(r) * reference(s) <= 1_000_000 * u128::from(sum);
+    // No allowed sum reaches 2^17 thousandths: a sample of 100,000 is 100 times the smallest reference.
+    (0..17).rev().fold(0, |r, bit| if fits(r + (1 << bit)) { r + (1 << bit) } else { r })
+}
+
+/// Why the event has no score: 0 where it has one.
+pub fn reason(s: &Settings, e: &Event) -> u64 {
+    if first_bad(s).is_some() {
+        return 6;
+    }
+    if !is_event(s, e) {
+        return 5;
+    }
+    let [kind, _, _, seen, ..] = *e;
+    match (kind, seen) {
+        (1, 3) => 0,
+        (1, 2) => 1,
+        (1, 1) => 2,
+        (1, _) => 3,
+        _ => 4,
+    }
+}
+
+/// Whether eight numbers can be an event at all, under good settings.
+fn is_event(s: &Settings, e: &Event) -> bool {
+    let [kind, start, end, seen, extreme, retained_value, shortfall, class] = *e;
+    let possible = (1..=3).contains(&kind)
+        && start < end
+        && end <= LONGEST
+        && seen <= 3
+        && u128::from(extreme) <= u128::from(s.n) * 10_000_000_000
+        && retained_value == retained(s, extreme);
+    let of_its_kind = |h: u64| match kind {
+        1 => below(s, extreme, s.sag) && u128::from(shortfall) <= 3 * reference(s) * u128::from(h) && class <= 6,
+        _ => shortfall == 0 && class == 0,
+    };
+    possible && of_its_kind(end - start)
+}
+
+/// The curve's value for h half-cycles, in thousandths of R.
+fn curve(s: &Settings, h: u64) -> u64 {
+    if h <= 2 {
+        0
+    } else if 5 * h <= 2 * s.f {
+        500
+    } else if h <= s.f {
+        700
+    } else {
+        800
+    }
+}
+
+/// The two floats of an event, or the reason why it has none.
+pub fn score(s: &Settings, e: &Event) -> Result<Score, u64> {
+    match reason(s, e) {
+        0 => Ok(floats(s, e)),
+        why => Err(why),
+    }
+}
+
+fn floats(s: &Settings, e: &Event) -> Score {
+    let [_, start, end, _, _, retained_value, shortfall, _] = *e;
+    let lost = 1000 - retained_value;
+    let allowed = 1000 - curve(s, end - start);
+    Score { severity: lost as f64 / allowed as f64, energy: milliseconds(s, shortfall) as f64 / 1000.0 }
+}
+
+/// The shortfall as whole milliseconds, rounded down.
+fn milliseconds(s: &Settings, shortfall: u64) -> u64 {
+    (1000 * u128::from(shortfall) / (reference(s) * 2 * u128::from(s.f))) as u64
+}
+
+/// The cell of an event: 40 where it has no score.
+pub fn cell(s: &Settings, e: &Event) -> u64 {
+    let [_, start, end, _, extreme, ..] = *e;
+    if reason(s, e) == 0 {
+        8 * row(s, extreme) + column(s, end - start)
+    } else {
+        NO_CELL
+    }
+}
+
+/// The first row whose border the extreme does not exceed: a voltage on a border goes to the deeper row.
+fn row(s: &Settings, extreme: u64) -> u64 {
+    [10, 40, 70, 85].iter().filter(|&&percent| above(s, extreme, percent)).count() as u64
+}
+
+/// The first column whose border h stays below: a duration on a border goes to the longer column.
+fn column(s: &Settings, h: u64) -> u64 {
+    let short = [h < 2, 5 * h < s.f, h < s.f, h < 2 * s.f, h < 6 * s.f, h < 40 * s.f, h < 120 * s.f];
+    short.iter().position(|&short| short).unwrap_or(7) as u64
+}

@@ -1,0 +1,111 @@
+//! The gate's comparison of the proved library with the second program, and what it stands on: the linear form agrees with
+//! the naive one, and the drawn cases reach every corner of the rules.
+use oracle::compare::{draw, of_the_oracle, run, Case, Until};
+use oracle::{plain, recording, settings, site};
+use std::collections::BTreeSet;
+
+/// The gate's seed; by hand, `compare --seed` tries others.
+const SEED: u64 = 20_260;
+
+#[test]
+fn no_difference() {
+    let report = run(SEED, 0, Until::Cases(80_000));
+    if let Some(difference) = &report.difference {
+        panic!("{difference}");
+    }
+    assert_eq!(report.cases, 80_000);
+}
+
+/// Half-cycles up to which the naive program is quick enough to hold the linear one to it.
+const SHORT: u64 = 400;
+
+#[test]
+fn the_linear_form_agrees_with_the_naive_one() {
+    let mut compared = 0;
+    for number in 0..10_000 {
+        match draw(SEED + 1, number) {
+            Case::List { settings, samples, room } if short(&settings, &samples) => {
+                let (mut naive, mut linear) = (vec![7; room], vec![7; room]);
+                let answers =
+                    (oracle::list(&settings, &samples, &mut naive), plain::list(&settings, &samples, &mut linear));
+                assert_eq!((answers.0, naive), (answers.1, linear), "case {number}");
+                compared += 1;
+            }
+            Case::Add { table, samples } if short(&site::settings(&table), &samples) => {
+                let (mut naive, mut linear) = (table, table);
+                let answers = (oracle::add(&mut naive, &samples), plain::add(&mut linear, &samples));
+                assert_eq!((answers.0, naive), (answers.1, linear), "case {number}");
+                compared += 1;
+            }
+            _ => {}
+        }
+    }
+    assert!(compared > 5_000, "only {compared} compared");
+}
+
+fn short(s: &oracle::Settings, samples: &[i32]) -> bool {
+    settings::first_bad(s).is_some()
+        || recording::check(s, samples).is_err()
+        || recording::half_cycles(s, samples) <= SHORT
+}
+
+/// What the drawn cases reach, by the second program's answers.
+#[derive(Default)]
+struct Reached {
+    list_refusals: BTreeSet<u64>,
+    add_refusals: BTreeSet<u64>,
+    fresh_places: BTreeSet<u64>,
+    reasons: BTreeSet<u64>,
+    cells: BTreeSet<u64>,
+    kinds_and_seen: BTreeSet<(u64, u64)>,
+    types: BTreeSet<u64>,
+    samples_per_cycle: BTreeSet<u64>,
+}
+
+impl Reached {
+    fn note(&mut self, case: &Case) {
+        let answer = of_the_oracle(case);
+        let first = |i: usize| answer[i].1[0];
+        match case {
+            Case::List { settings, room, .. } => {
+                self.list_refusals.insert(first(0));
+                if first(0) == 0 {
+                    self.samples_per_cycle.insert(settings.n);
+                    let words = &answer[2].1[..*room];
+                    self.note_events(&words[..8 * first(1) as usize]);
+                }
+            }
+            Case::Add { .. } => drop(self.add_refusals.insert(first(0))),
+            Case::Fresh { .. } => drop(self.fresh_places.insert(first(1))),
+            Case::Score { .. } => {
+                self.reasons.insert(first(0));
+                self.cells.insert(first(4));
+            }
+        }
+    }
+
+    fn note_events(&mut self, words: &[u64]) {
+        for event in words.chunks(8) {
+            self.kinds_and_seen.insert((event[0], event[3]));
+            if event[0] == 1 {
+                self.types.insert(event[7]);
+            }
+        }
+    }
+}
+
+#[test]
+fn the_cases_reach_every_corner() {
+    let mut reached = Reached::default();
+    for number in 0..40_000 {
+        reached.note(&draw(SEED, number));
+    }
+    assert_eq!(reached.list_refusals, BTreeSet::from([0, 1, 2, 3, 4, 5, 6, 7]));
+    assert_eq!(reached.add_refusals, BTreeSet::from([0, 2, 3, 4, 5, 6, 8, 9]));
+    assert_eq!(reached.fresh_places, (0..=7).collect());
+    assert_eq!(reached.reasons, (0..=6).collect());
+    assert_eq!(reached.cells, (0..=40).collect());
+    assert_eq!(reached.kinds_and_seen, (1..=3).flat_map(|kind| (0..=3).map(move |seen| (kind, seen))).collect());
+    assert_eq!(reached.types, (0..=6).collect());
+    assert_eq!(reached.samples_per_cycle, (4..=256).map(|half| 2 * half).collect());
+}

@@ -1,0 +1,198 @@
+//! The known answers K1 to K12 of the rules, held against the second program, its linear form and the proved library.
+use oracle::recording::MISSING;
+use oracle::site::at;
+use oracle::{Event, Refused, Settings, Table};
+
+const SETTINGS: Settings = Settings { n: 8, r: 1_000, f: 50, sag: 90, interruption: 10, swell: 110, hysteresis: 2 };
+
+/// Blocks of four equal samples, the channels equal.
+fn blocks(levels: &[i32]) -> Vec<i32> {
+    levels.iter().flat_map(|&level| [level; 12]).collect()
+}
+
+type Lister = fn(&Settings, &[i32], &mut [u64]) -> Result<u64, Refused>;
+type Adder = fn(&mut Table, &[i32]) -> Result<(), Refused>;
+
+const PROGRAMS: [(&str, Lister, Adder); 3] = [
+    ("second program", oracle::list, oracle::add),
+    ("linear form", oracle::plain::list, oracle::plain::add),
+    ("proved library", host::list, host::add),
+];
+
+/// The whole list, and nothing written beyond it.
+fn assert_listed(samples: &[i32], events: &[Event]) {
+    for (program, list, _) in PROGRAMS {
+        let mut room = [77; 40];
+        assert_eq!(list(&SETTINGS, samples, &mut room), Ok(events.len() as u64), "{program}");
+        assert_eq!(room[..8 * events.len()], events.concat(), "{program}");
+        assert!(room[8 * events.len()..].iter().all(|&word| word == 77), "{program} wrote beyond the last event");
+    }
+}
+
+/// Cell, severity and energy of a sag, its energy in milliseconds.
+fn assert_scored(event: Event, cell: u64, severity: f64, milliseconds: f64) {
+    let expected = oracle::Score { severity, energy: milliseconds / 1000.0 };
+    for (score, reason, at) in [
+        (oracle::score(&SETTINGS, &event), oracle::reason(&SETTINGS, &event), oracle::cell(&SETTINGS, &event)),
+        (host::score(&SETTINGS, &event), host::reason(&SETTINGS, &event), host::cell(&SETTINGS, &event)),
+    ] {
+        assert_eq!((score, reason, at), (Ok(expected), 0, cell));
+    }
+}
+
+fn assert_not_scored(event: Event, why: u64) {
+    for (score, reason, cell) in [
+        (oracle::score(&SETTINGS, &event), oracle::reason(&SETTINGS, &event), oracle::cell(&SETTINGS, &event)),
+        (host::score(&SETTINGS, &event), host::reason(&SETTINGS, &event), host::cell(&SETTINGS, &event)),
+    ] {
+        assert_eq!((score, reason, cell), (Err(why), why, 40));
+    }
+}
+
+/// What a fresh table holds after the recording: healthy, disturbed and unknown, then each word named by its place.
+fn assert_added(samples: &[i32], [healthy, disturbed, unknown]: [u64; 3], others: &[(usize, u64)]) {
+    let mut expected = oracle::fresh(&SETTINGS).1;
+    expected[at::TOTAL] = healthy + disturbed + unknown;
+    expected[at::HEALTHY] = healthy;
+    expected[at::DISTURBED] = disturbed;
+    expected[at::UNKNOWN] = unknown;
+    for &(place, count) in others {
+        expected[place] = count;
+    }
+    for (program, _, add) in PROGRAMS {
+        let mut table = host::fresh(&SETTINGS).1;
+        assert_eq!(add(&mut table, samples), Ok(()), "{program}");
+        assert_eq!(table, expected, "{program}");
+    }
+}
+
+#[test]
+fn k1_a_quiet_recording_has_no_event() {
+    let samples = blocks(&[1000; 6]);
+    assert_listed(&samples, &[]);
+    assert_added(&samples, [5, 0, 0], &[]);
+}
+
+#[test]
+fn k2_half_the_voltage_for_a_cycle() {
+    let samples = blocks(&[1000, 1000, 500, 500, 1000, 1000]);
+    let sag = [1, 1, 4, 3, 2_000_000, 500, 36_000_000, 0];
+    assert_listed(&samples, &[sag]);
+    assert_scored(sag, 17, 1.0, 45.0);
+    assert_added(&samples, [2, 3, 0], &[(at::CELLS + 17, 1), (at::SAGS, 1), (at::SHORTFALL, 36_000_000)]);
+}
+
+#[test]
+fn k3_on_the_threshold_is_not_below_it() {
+    let samples = blocks(&[900; 6]);
+    assert_listed(&samples, &[]);
+    assert_added(&samples, [5, 0, 0], &[]);
+}
+
+#[test]
+fn k4_one_unit_below_the_threshold() {
+    let samples = blocks(&[1000, 1000, 899, 899, 1000, 1000]);
+    let sag = [1, 2, 3, 3, 6_465_608, 899, 4_603_176, 0];
+    assert_listed(&samples, &[sag]);
+    assert_scored(sag, 32, 0.101, 5.0);
+    assert_added(&samples, [4, 1, 0], &[(at::CELLS + 32, 1), (at::SAGS, 1), (at::SHORTFALL, 4_603_176)]);
+}
+
+#[test]
+fn k5_a_sag_ends_above_the_hysteresis_only() {
+    let samples = blocks(&[1000, 899, 899, 919, 919, 920, 920]);
+    let sag = [1, 1, 5, 3, 6_465_608, 899, 4_603_176, 0];
+    assert_listed(&samples, &[sag]);
+    assert_scored(sag, 33, 0.202, 5.0);
+}
+
+#[test]
+fn k6_an_interruption_within_a_sag() {
+    let samples = blocks(&[1000, 1000, 0, 0, 1000, 1000]);
+    let sag = [1, 1, 4, 3, 0, 0, 48_000_000, 0];
+    let interruption = [2, 2, 3, 3, 0, 0, 0, 0];
+    assert_listed(&samples, &[sag, interruption]);
+    assert_scored(sag, 1, 2.0, 60.0);
+    assert_not_scored(interruption, 4);
+    let counts = [(at::CELLS + 1, 1), (at::SAGS, 1), (at::INTERRUPTIONS, 1), (at::SHORTFALL, 48_000_000)];
+    assert_added(&samples, [2, 3, 0], &counts);
+}
+
+#[test]
+fn k7_rows_go_by_the_exact_extreme() {
+    let samples = blocks(&[1000, 1000, 100, 101, 1000, 1000]);
+    let sag = [1, 1, 4, 3, 80_804, 100, 47_515_176, 0];
+    assert_listed(&samples, &[sag]);
+    assert_scored(sag, 9, 1.8, 59.0);
+}
+
+#[test]
+fn k8_a_start_not_seen() {
+    let samples = blocks(&[500, 500, 1000, 1000]);
+    let sag = [1, 0, 2, 2, 2_000_000, 500, 27_000_000, 0];
+    assert_listed(&samples, &[sag]);
+    assert_not_scored(sag, 1);
+    assert_added(&samples, [1, 2, 0], &[(at::UNPLACED, 1), (at::SAGS, 1), (at::SHORTFALL, 27_000_000)]);
+}
+
+#[test]
+fn k9_a_missing_sample_cuts_a_sag_in_two() {
+    for lost in 4 * 12..5 * 12 {
+        let mut samples = blocks(&[1000, 1000, 500, 500, 500, 500, 1000, 1000]);
+        samples[lost] = MISSING;
+        let before = [1, 1, 3, 1, 2_000_000, 500, 27_000_000, 0];
+        let after = [1, 5, 6, 2, 5_000_000, 790, 9_000_000, 0];
+        assert_listed(&samples, &[before, after]);
+        assert_not_scored(before, 2);
+        assert_not_scored(after, 1);
+        assert_added(&samples, [2, 3, 2], &[(at::UNPLACED, 2), (at::SAGS, 2), (at::SHORTFALL, 36_000_000)]);
+    }
+}
+
+#[test]
+fn k10_a_swell() {
+    let samples = blocks(&[1000, 1000, 1200, 1200, 1000, 1000]);
+    let swell = [3, 1, 4, 3, 11_520_000, 1200, 0, 0];
+    assert_listed(&samples, &[swell]);
+    assert_not_scored(swell, 4);
+    assert_added(&samples, [2, 3, 0], &[(at::SWELLS, 1)]);
+}
+
+#[test]
+fn k11_neither_end_seen() {
+    let samples = blocks(&[500, 500]);
+    let sag = [1, 0, 1, 0, 2_000_000, 500, 18_000_000, 0];
+    assert_listed(&samples, &[sag]);
+    assert_not_scored(sag, 3);
+    assert_added(&samples, [0, 1, 0], &[(at::UNPLACED, 1), (at::SAGS, 1), (at::SHORTFALL, 18_000_000)]);
+}
+
+#[test]
+fn k12_a_sag_on_one_channel() {
+    let levels = [1000, 1000, 500, 500, 1000, 1000];
+    let samples: Vec<i32> = levels.iter().flat_map(|&a| [a, 1000, 1000].repeat(4)).collect();
+    let sag = [1, 1, 4, 3, 2_000_000, 500, 12_000_000, 4];
+    assert_listed(&samples, &[sag]);
+    assert_scored(sag, 17, 1.0, 15.0);
+}
+
+#[test]
+fn what_is_turned_away() {
+    let k2 = blocks(&[1000, 1000, 500, 500, 1000, 1000]);
+    let mut out_of_range = k2.clone();
+    out_of_range[5] = 100_001;
+    for (program, list, add) in PROGRAMS {
+        let mut room = [77; 7];
+        assert_eq!(list(&SETTINGS, &[], &mut room), Err(Refused { number: 3, place: 0 }), "{program}");
+        assert_eq!(list(&SETTINGS, &out_of_range, &mut room), Err(Refused { number: 6, place: 5 }), "{program}");
+        assert_eq!(list(&SETTINGS, &k2, &mut room), Err(Refused { number: 7, place: 1 }), "{program}");
+        assert_eq!(room, [77; 7], "{program} wrote in spite of a refusal");
+        let mut table = [0; 57];
+        assert_eq!(add(&mut table, &k2), Err(Refused { number: 9, place: 0 }), "{program}");
+        assert_eq!(table, [0; 57], "{program} changed the table in spite of a refusal");
+    }
+    let bad = Settings { f: 55, ..SETTINGS };
+    for (refused, table) in [oracle::fresh(&bad), host::fresh(&bad)] {
+        assert_eq!((refused, table), (Err(Refused { number: 1, place: 3 }), [0; 57]));
+    }
+}
