@@ -1,0 +1,172 @@
+//! Retained value against duration, on a logarithmic axis, with the severity curve.
+use super::{
+    svg::{at, esc, line, text, whole, wide},
+    Drawn,
+};
+use crate::{answer::Found, probe, words};
+use host::Settings;
+use std::collections::BTreeSet;
+
+const WIDTH: f64 = 960.0;
+const LEFT: f64 = 60.0;
+const RIGHT: f64 = 24.0;
+const TOP: f64 = 14.0;
+const HEIGHT: f64 = 250.0;
+/// More points than this have no numbers beside them.
+const NAMED: usize = 40;
+
+/// Where durations and retained values lie in the drawing.
+struct Frame {
+    /// Half-cycles in a second.
+    pace: f64,
+    /// The powers of ten, in seconds, at which the axis begins and ends.
+    decades: (f64, f64),
+    top: f64,
+}
+
+impl Frame {
+    fn x(&self, halves: f64) -> f64 {
+        let (first, last) = self.decades;
+        LEFT + (WIDTH - LEFT - RIGHT) * ((halves / self.pace).log10() - first) / (last - first)
+    }
+
+    fn halves(&self, x: f64) -> f64 {
+        let (first, last) = self.decades;
+        self.pace * 10f64.powf(first + (last - first) * (x - LEFT) / (WIDTH - LEFT - RIGHT))
+    }
+
+    fn y(&self, thousandths: f64) -> f64 {
+        TOP + HEIGHT * (1.0 - thousandths.min(self.top) / self.top)
+    }
+}
+
+/// The whole drawing: the events of all recordings, each named by its recording and its number there.
+pub fn chart(s: &Settings, drawn: &[Drawn]) -> String {
+    let events = || drawn.iter().flat_map(|d| d.answer.events.iter());
+    let longest = events().map(Found::halves).max().unwrap_or(1) as f64 / (2 * s.f) as f64;
+    let highest = events().map(|event| event.retained).max().unwrap_or(0).max(s.swell * 10) as f64;
+    let frame = Frame {
+        pace: (2 * s.f) as f64,
+        decades: (-2.3, longest.log10().floor().max(0.0) + 1.0),
+        top: (highest / 100.0).floor() * 100.0 + 100.0,
+    };
+    let inner = grid(&frame) + &curve(&frame, s) + &points(&frame, drawn) + &legend(TOP + HEIGHT + 50.0);
+    whole(WIDTH, TOP + HEIGHT + 60.0, "retained value against duration, with the severity curve", &inner)
+}
+
+fn grid(frame: &Frame) -> String {
+    let mut out = String::new();
+    for tick in 0..=(frame.top / 200.0) as usize {
+        let y = frame.y(tick as f64 * 200.0);
+        out += &line("grid", LEFT, y, WIDTH - RIGHT, y);
+        out += &text("tick", "end", LEFT - 8.0, y + 4.0, &format!("{} %", tick * 20));
+    }
+    let (first, last) = (frame.decades.0.ceil() as i32, frame.decades.1 as i32);
+    for power in first..=last {
+        let x = frame.x(frame.pace * 10f64.powi(power));
+        let (said, anchor) = match power {
+            -2 => ("0.01 s".to_string(), "middle"),
+            -1 => ("0.1 s".to_string(), "middle"),
+            power if power == last => (format!("{} s", 10i64.pow(power as u32)), "end"),
+            power => (format!("{} s", 10i64.pow(power as u32)), "middle"),
+        };
+        out += &line("grid", x, TOP, x, TOP + HEIGHT);
+        out += &text("tick", anchor, x, TOP + HEIGHT + 16.0, &said);
+    }
+    out
+}
+
+/// The curve, and the field under it, where severity is above 1.
+fn curve(frame: &Frame, s: &Settings) -> String {
+    let mut path = String::new();
+    let mut height = String::new();
+    for column in 0..=(WIDTH - LEFT - RIGHT) as usize {
+        let x = LEFT + column as f64;
+        let halves = frame.halves(x).floor().clamp(1.0, 100_000.0);
+        let Some(value) = probe::curve(s, halves as u64) else { continue };
+        let y = at(frame.y(value));
+        if height.is_empty() {
+            path += &format!("M{} {y}", at(x));
+        } else if height != y {
+            path += &format!("H{}V{y}", at(x));
+        }
+        height = y;
+    }
+    path += &format!("H{}", at(WIDTH - RIGHT));
+    let (bottom, left) = (at(TOP + HEIGHT), at(LEFT));
+    let mut out = format!(r#"<path class="under" d="{path}V{bottom}H{left}Z"/><path class="severity" d="{path}"/>"#);
+    let said = "under this curve, severity is above 1";
+    out += &text("name severity", "end", WIDTH - RIGHT - 8.0, TOP + HEIGHT - 10.0, said);
+    out
+}
+
+fn points(frame: &Frame, drawn: &[Drawn]) -> String {
+    let count: usize = drawn.iter().map(|d| d.answer.events.len()).sum();
+    let (mut shapes, mut taken, mut names) = ([String::new(), String::new()], BTreeSet::new(), Vec::new());
+    for (recording, d) in drawn.iter().enumerate() {
+        for (number, event) in d.answer.events.iter().enumerate() {
+            let (x, y) = (frame.x(event.halves() as f64), frame.y(event.retained as f64));
+            let scored = event.reason == 0;
+            // Points on top of each other look like one: the first of them is enough, and the page stays small.
+            if count > NAMED && !taken.insert((x as i64, y as i64, event.kind, scored)) {
+                continue;
+            }
+            let name = format!("{}.{}", recording + 1, number + 1);
+            let title = format!("{name}: {}, {}", words::kind(event.kind), words::reason(event.reason));
+            let shape = format!("<g><title>{}</title>{}</g>", esc(&title), mark(event.kind, scored, x, y));
+            shapes[usize::from(scored)] += &shape;
+            names.push((x, y, name));
+        }
+    }
+    // Those with a score on top.
+    let mut out = shapes.concat();
+    if count <= NAMED {
+        out += &named(&names);
+    }
+    out
+}
+
+/// The points' names, each beside, above or below its point, where it meets no other point and no other name.
+fn named(points: &[(f64, f64, String)]) -> String {
+    let mut boxes: Vec<(f64, f64, f64)> = points.iter().map(|(x, y, _)| (*x, *y, 7.0)).collect();
+    let mut out = String::new();
+    for (x, y, name) in points {
+        let half = wide(name) / 2.0;
+        let spots = [(x + 9.0 + half, *y), (*x, y - 14.0), (*x, y + 15.0), (x - 9.0 - half, *y)];
+        let free = |(nx, ny): &&(f64, f64)| {
+            let meets = |(bx, by, wide): &(f64, f64, f64)| (nx - bx).abs() < wide + half && (ny - by).abs() < 13.0;
+            !boxes.iter().any(meets)
+        };
+        let (nx, ny) = spots.iter().find(free).copied().unwrap_or(spots[0]);
+        boxes.push((nx, ny, half));
+        out += &text("tick halo", "middle", nx, ny + 4.0, name);
+    }
+    out
+}
+
+/// A shape for each kind, filled where the event has a score.
+fn mark(kind: u64, scored: bool, x: f64, y: f64) -> String {
+    let class = format!("{} {}", words::kind(kind), if scored { "scored" } else { "unscored" });
+    let shape = |points: &[(f64, f64)]| {
+        let points: Vec<String> = points.iter().map(|(dx, dy)| format!("{},{}", at(x + dx), at(y + dy))).collect();
+        format!(r#"<polygon class="mark {class}" points="{}"/>"#, points.join(" "))
+    };
+    match kind {
+        1 => format!(r#"<circle class="mark {class}" cx="{}" cy="{}" r="5"/>"#, at(x), at(y)),
+        2 => shape(&[(-5.0, -5.0), (5.0, -5.0), (5.0, 5.0), (-5.0, 5.0)]),
+        _ => shape(&[(0.0, -6.0), (6.0, 5.0), (-6.0, 5.0)]),
+    }
+}
+
+fn legend(y: f64) -> String {
+    let mut x = LEFT + 6.0;
+    let mut out = String::new();
+    let entries =
+        [(1, true, "sag, scored"), (1, false, "sag without a score"), (2, false, "interruption"), (3, false, "swell")];
+    for (kind, scored, said) in entries {
+        out += &mark(kind, scored, x, y - 4.0);
+        out += &text("tick", "start", x + 11.0, y, said);
+        x += wide(said) + 42.0;
+    }
+    out + &text("tick", "end", WIDTH - RIGHT, y, "numbers: recording.event")
+}

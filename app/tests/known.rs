@@ -1,0 +1,156 @@
+//! The known answers, through CSV, through raw files and through standard input, in the list and in the table.
+mod common;
+use common::{blocks, csv, listed, raw, Folder, KNOWN, MISSING};
+
+/// A known answer: the recording; each event's eight numbers, reason and cell, with its severity and energy; total,
+/// healthy, disturbed and unknown half-cycles.
+struct Known {
+    name: &'static str,
+    samples: Vec<i32>,
+    events: Vec<([u64; 10], &'static str)>,
+    halves: [u64; 4],
+}
+
+fn known(name: &'static str, samples: Vec<i32>, events: &[([u64; 10], &'static str)], halves: [u64; 4]) -> Known {
+    Known { name, samples, events: events.to_vec(), halves }
+}
+
+/// K9: one sample of the fifth block is missing.
+fn gap() -> Vec<i32> {
+    let mut samples = blocks(&[1000, 1000, 500, 500, 500, 500, 1000, 1000]);
+    samples[4 * 12 + 7] = MISSING;
+    samples
+}
+
+/// K12: channel a alone drops.
+fn one_channel() -> Vec<i32> {
+    let mut samples = blocks(&[1000; 6]);
+    samples[24..48].iter_mut().step_by(3).for_each(|a| *a = 500);
+    samples
+}
+
+#[rustfmt::skip]
+fn cases() -> Vec<Known> {
+    vec![
+        known("k1", blocks(&[1000; 6]), &[], [5, 5, 0, 0]),
+        known("k2", blocks(&[1000, 1000, 500, 500, 1000, 1000]),
+            &[([1, 1, 4, 3, 2000000, 500, 36000000, 0, 0, 17], "1 0.045")], [5, 2, 3, 0]),
+        known("k3", blocks(&[900; 6]), &[], [5, 5, 0, 0]),
+        known("k4", blocks(&[1000, 1000, 899, 899, 1000, 1000]),
+            &[([1, 2, 3, 3, 6465608, 899, 4603176, 0, 0, 32], "0.101 0.005")], [5, 4, 1, 0]),
+        known("k5", blocks(&[1000, 899, 899, 919, 919, 920, 920]),
+            &[([1, 1, 5, 3, 6465608, 899, 4603176, 0, 0, 33], "0.202 0.005")], [6, 2, 4, 0]),
+        known("k6", blocks(&[1000, 1000, 0, 0, 1000, 1000]),
+            &[([1, 1, 4, 3, 0, 0, 48000000, 0, 0, 1], "2 0.06"), ([2, 2, 3, 3, 0, 0, 0, 0, 4, 40], " ")], [5, 2, 3, 0]),
+        known("k7", blocks(&[1000, 1000, 100, 101, 1000, 1000]),
+            &[([1, 1, 4, 3, 80804, 100, 47515176, 0, 0, 9], "1.8 0.059")], [5, 2, 3, 0]),
+        known("k8", blocks(&[500, 500, 1000, 1000]),
+            &[([1, 0, 2, 2, 2000000, 500, 27000000, 0, 1, 40], " ")], [3, 1, 2, 0]),
+        known("k9", gap(),
+            &[([1, 1, 3, 1, 2000000, 500, 27000000, 0, 2, 40], " "), ([1, 5, 6, 2, 5000000, 790, 9000000, 0, 1, 40], " ")],
+            [7, 2, 3, 2]),
+        known("k10", blocks(&[1000, 1000, 1200, 1200, 1000, 1000]),
+            &[([3, 1, 4, 3, 11520000, 1200, 0, 0, 4, 40], " ")], [5, 2, 3, 0]),
+        known("k11", blocks(&[500, 500]),
+            &[([1, 0, 1, 0, 2000000, 500, 18000000, 0, 3, 40], " ")], [1, 0, 1, 0]),
+        known("k12", one_channel(),
+            &[([1, 1, 4, 3, 2000000, 500, 12000000, 4, 0, 17], "1 0.015")], [5, 2, 3, 0]),
+    ]
+}
+
+fn wanted(case: &Known) -> Vec<(Vec<u64>, String)> {
+    case.events.iter().map(|(numbers, score)| (numbers.to_vec(), score.to_string())).collect()
+}
+
+#[test]
+fn lists_through_csv() {
+    let folder = Folder::new("known-csv");
+    for case in cases() {
+        folder.write("k.csv", csv(&case.samples));
+        assert_eq!(folder.events("k.csv", &[]), wanted(&case), "{}", case.name);
+    }
+}
+
+#[test]
+fn lists_through_raw_files() {
+    let folder = Folder::new("known-raw");
+    for case in cases() {
+        folder.write("k.i32", raw(&case.samples));
+        assert_eq!(folder.events("k.i32", &[]), wanted(&case), "{}", case.name);
+    }
+}
+
+#[test]
+fn lists_through_standard_input() {
+    let folder = Folder::new("known-stdin");
+    for case in cases() {
+        let args = [&["list", "-", "--csv"][..], &KNOWN].concat();
+        let ran = folder.run_with(&args, csv(&case.samples).as_bytes());
+        assert_eq!((ran.status, listed(&ran.out)), (0, wanted(&case)), "{}", case.name);
+        let ran = folder.run_with(&[&args[..], &["--raw"]].concat(), &raw(&case.samples));
+        assert_eq!((ran.status, listed(&ran.out)), (0, wanted(&case)), "{}, raw", case.name);
+    }
+}
+
+/// The table that a recording makes of a fresh one follows from its events: sags with a score are in their cells, other
+/// sags are unplaced, and no known answer has a stray interruption.
+#[test]
+fn tables() {
+    let folder = Folder::new("known-tables");
+    for case in cases() {
+        let site = format!("{}.site", case.name);
+        folder.site(&site);
+        folder.write("k.csv", csv(&case.samples));
+        folder.accepted(&["add", &site, "k.csv"]);
+        for (name, count) in ["total", "healthy", "disturbed", "unknown"].iter().zip(case.halves) {
+            assert_eq!(folder.counted(&site, name), count, "{}: {name}", case.name);
+        }
+        let of = |kind: u64| case.events.iter().filter(|(e, _)| e[0] == kind).count() as u64;
+        for (name, kind) in [("sags", 1), ("interruptions", 2), ("swells", 3)] {
+            assert_eq!(folder.counted(&site, name), of(kind), "{}: {name}", case.name);
+        }
+        let cell = |cell: u64| case.events.iter().filter(|(e, _)| e[9] == cell).count() as u64;
+        let told = folder.accepted(&["show", &site, "--csv"]);
+        for at in 0..40 {
+            assert!(told.contains(&format!("\ncell-{at},{}\n", cell(at))), "{}: cell {at}: {told}", case.name);
+        }
+        let unplaced = case.events.iter().filter(|(e, _)| e[0] == 1 && e[9] == 40).count() as u64;
+        assert_eq!(folder.counted(&site, "unplaced"), unplaced, "{}", case.name);
+        assert_eq!(folder.counted(&site, "stray"), 0, "{}", case.name);
+        let shortfall: u64 = case.events.iter().map(|(e, _)| e[6]).sum();
+        assert_eq!(folder.counted(&site, "shortfall"), shortfall, "{}", case.name);
+    }
+}
+
+/// All twelve, one after another, in one table.
+#[test]
+fn one_table_of_all() {
+    let folder = Folder::new("known-all");
+    folder.site("all.site");
+    let mut files = Vec::new();
+    for case in cases() {
+        files.push(format!("{}.i32", case.name));
+        folder.write(files.last().unwrap(), raw(&case.samples));
+    }
+    let args: Vec<&str> = ["add", "all.site"].into_iter().chain(files.iter().map(String::as_str)).collect();
+    folder.accepted(&args);
+    let wanted = [
+        ("total", 57),
+        ("healthy", 29),
+        ("disturbed", 26),
+        ("unknown", 2),
+        ("sags", 10),
+        ("unplaced", 4),
+        ("interruptions", 1),
+        ("swells", 1),
+        ("cell-17", 2),
+        ("cell-9", 1),
+        ("cell-1", 1),
+        ("cell-32", 1),
+        ("cell-33", 1),
+        ("stray", 0),
+    ];
+    for (name, count) in wanted {
+        assert_eq!(folder.counted("all.site", name), count, "{name}");
+    }
+}

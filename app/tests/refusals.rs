@@ -1,0 +1,201 @@
+//! Each refusal, 1 to 9, reached from the command line: its number, its place, its words, status 1, and nothing written.
+mod common;
+use common::{blocks, csv, k2, raw, Folder, KNOWN};
+use std::fs;
+
+fn list<'a>(file: &'a str, more: &[&'a str]) -> Vec<&'a str> {
+    [&["list", file][..], &KNOWN, more].concat()
+}
+
+#[test]
+fn refusal_1_names_the_first_setting_outside_its_range() {
+    let folder = Folder::new("refusal-1");
+    let good = ["8", "1000", "50", "90", "10", "110", "2"];
+    let options = ["--n", "--r", "--f", "--sag", "--interruption", "--swell", "--hysteresis"];
+    let bad = ["9", "999", "55", "96", "0", "151", "6"];
+    for at in 0..7 {
+        let mut args = vec!["new", "x.site"];
+        for (i, option) in options.iter().enumerate() {
+            // From this setting on all are bad: the first one is told.
+            args.extend([*option, if i < at { good[i] } else { bad[i] }]);
+        }
+        let ran = folder.refused(&args, 1, at as u64 + 1);
+        assert!(ran.err.contains("a setting is outside its range"), "{ran:?}");
+        assert!(
+            ran.err.contains(&format!("({},", options[at])) || ran.err.contains(&format!("({})", options[at])),
+            "{ran:?}"
+        );
+    }
+    assert_eq!(fs::read_dir(&folder.0).unwrap().count(), 0, "a refused site leaves no file");
+    folder.write("k.csv", csv(&k2()));
+    folder.refused(&["list", "k.csv", "--n", "8", "--r", "1000", "--f", "50", "--sag", "49"], 1, 4);
+}
+
+#[test]
+fn refusal_2_a_length_that_is_no_multiple_of_3() {
+    let folder = Folder::new("refusal-2");
+    folder.write("k.i32", raw(&k2()[1..]));
+    let ran = folder.refused(&list("k.i32", &[]), 2, 0);
+    assert!(ran.err.contains("k.i32: refusal 2, place 0: the length is not a multiple of 3"), "{ran:?}");
+}
+
+#[test]
+fn refusal_3_too_few_samples() {
+    let folder = Folder::new("refusal-3");
+    folder.write("none.csv", "");
+    folder.write("head.csv", "a,b,c\n");
+    folder.write("none.i32", "");
+    folder.write("few.i32", raw(&k2()[..21]));
+    for file in ["none.csv", "head.csv", "none.i32", "few.i32"] {
+        let ran = folder.refused(&list(file, &[]), 3, 0);
+        assert!(ran.err.contains("fewer than N samples per channel"), "{ran:?}");
+    }
+}
+
+#[test]
+fn refusal_4_no_multiple_of_half_a_cycle() {
+    let folder = Folder::new("refusal-4");
+    folder.write("k.csv", csv(&k2()[..27]));
+    let ran = folder.refused(&list("k.csv", &[]), 4, 0);
+    assert!(ran.err.contains("not a multiple of N/2"), "{ran:?}");
+}
+
+#[test]
+fn refusal_5_too_long_and_not_cut() {
+    let folder = Folder::new("refusal-5");
+    folder.write("most.i32", raw(&blocks(&vec![1000; 100_001])));
+    folder.write("long.i32", raw(&blocks(&vec![1000; 100_002])));
+    assert_eq!(folder.events("most.i32", &[]), []);
+    let ran = folder.refused(&list("long.i32", &[]), 5, 0);
+    assert!(ran.err.contains("above 100,000") && ran.err.contains("--cut"), "{ran:?}");
+    folder.site("x.site");
+    folder.refused(&["add", "x.site", "long.i32"], 5, 0);
+    assert_eq!(folder.counted("x.site", "total"), 0);
+}
+
+#[test]
+fn refusal_6_a_sample_out_of_range() {
+    let folder = Folder::new("refusal-6");
+    for (value, at) in [(100_001, 0), (-100_001, 71), (i32::MIN + 1, 40), (i32::MAX, 40)] {
+        let mut samples = k2();
+        samples[at] = value;
+        folder.write("k.csv", csv(&samples));
+        folder.write("k.i32", raw(&samples));
+        let ran = folder.refused(&list("k.csv", &[]), 6, at as u64);
+        let spot = format!("line {}, channel {}, {value}", at / 3 + 2, ["a", "b", "c"][at % 3]);
+        assert!(ran.err.contains("a sample is out of range") && ran.err.contains(&spot), "{ran:?}");
+        folder.refused(&list("k.i32", &[]), 6, at as u64);
+    }
+    folder.write("k.csv", csv(&blocks(&[100_000, -100_000])));
+    assert_eq!(folder.events("k.csv", &[]).len(), 1, "the largest samples are taken");
+}
+
+/// `list` makes the room that the library asks for, so that only `--room` can be too little.
+#[test]
+fn refusal_7_too_little_room() {
+    let folder = Folder::new("refusal-7");
+    folder.write("k.csv", csv(&k2()));
+    let ran = folder.refused(&list("k.csv", &["--room", "7"]), 7, 1);
+    assert!(ran.err.contains("the room is below 8 x the number of events, which is 1"), "{ran:?}");
+    assert_eq!(folder.events("k.csv", &["--room", "8"]).len(), 1);
+    folder.write("k6.csv", csv(&blocks(&[1000, 1000, 0, 0, 1000, 1000])));
+    folder.refused(&list("k6.csv", &["--room", "15"]), 7, 2);
+    assert_eq!(folder.events("k6.csv", &["--room", "16"]).len(), 2);
+}
+
+#[test]
+fn refusal_8_a_table_that_is_full() {
+    let folder = Folder::new("refusal-8");
+    folder.site("x.site");
+    folder.write("k.csv", csv(&k2()));
+    let full = folder.read("x.site").replace("total 0", "total 3999996").replace("healthy 0", "healthy 3999996");
+    folder.write("x.site", &full);
+    let ran = folder.refused(&["add", "x.site", "k.csv"], 8, 4);
+    assert!(ran.err.contains("total + H is above 4,000,000"), "{ran:?}");
+    assert_eq!(folder.read("x.site"), full);
+    folder.write("x.site", full.replace("3999996", "3999995"));
+    folder.accepted(&["add", "x.site", "k.csv"]);
+    assert_eq!(folder.counted("x.site", "total"), 4_000_000);
+    folder.refused(&["add", "x.site", "k.csv"], 8, 0);
+}
+
+#[test]
+fn refusal_9_comes_before_all_others() {
+    let folder = Folder::new("refusal-9");
+    folder.site("x.site");
+    folder.write("none.csv", "");
+    folder.write("k.csv", csv(&k2()));
+    let edited = folder.read("x.site").replace("healthy 0", "healthy 1");
+    folder.write("x.site", &edited);
+    let commands: [&[&str]; 5] = [
+        &["show", "x.site"],
+        &["add", "x.site", "k.csv"],
+        &["add", "x.site", "none.csv"],
+        &["list", "k.csv", "--site", "x.site"],
+        &["report", "x.site", "k.csv", "-o", "x.html"],
+    ];
+    for args in commands {
+        let ran = folder.refused(args, 9, 0);
+        assert!(ran.err.contains("x.site: refusal 9, place 0: the table offered is unsound"), "{ran:?}");
+    }
+    assert_eq!(folder.read("x.site"), edited);
+    assert!(!folder.path("x.html").exists());
+}
+
+/// What makes a table unsound, each in a table that is sound otherwise.
+#[test]
+fn refusal_9_finds_each_kind_of_damage() {
+    let folder = Folder::new("refusal-9-kinds");
+    folder.site("x.site");
+    folder.write("k.csv", csv(&blocks(&[1000, 1000, 0, 0, 1000, 1000])));
+    folder.accepted(&["add", "x.site", "k.csv"]);
+    let good = folder.read("x.site");
+    let damage = [
+        ("hysteresis 2", "hysteresis 6"),
+        ("unknown 0", "unknown 1"),
+        ("cell-1 1", "cell-1 2"),
+        ("unplaced 0", "unplaced 1"),
+        ("swells 0", "swells 6"),
+        ("stray 0", "stray 2"),
+        ("shortfall 48000000", "shortfall 120000001"),
+    ];
+    for (was, is) in damage {
+        assert!(good.contains(&format!("\n{was}\n")), "{was}");
+        folder.write("x.site", good.replace(&format!("\n{was}\n"), &format!("\n{is}\n")));
+        folder.refused(&["show", "x.site"], 9, 0);
+    }
+    let long = good.replace("total 5", "total 4000001").replace("healthy 2", "healthy 3999998");
+    folder.write("x.site", &long);
+    folder.refused(&["show", "x.site"], 9, 0);
+    // At the border itself each is sound.
+    folder.write("x.site", long.replace("4000001", "4000000").replace("3999998", "3999997"));
+    folder.accepted(&["show", "x.site"]);
+    folder.write("x.site", good.replace("shortfall 48000000", "shortfall 120000000"));
+    folder.accepted(&["show", "x.site"]);
+}
+
+#[test]
+fn where_several_apply_the_first_is_given() {
+    let folder = Folder::new("refusal-order");
+    let mut samples = k2();
+    samples[5] = 100_001;
+    samples.pop();
+    folder.write("k.i32", raw(&samples));
+    folder.refused(&["list", "k.i32", "--n", "8", "--r", "1", "--f", "50"], 1, 2);
+    folder.refused(&list("k.i32", &["--room", "0"]), 2, 0);
+    folder.write("k.i32", raw(&samples[..69]));
+    folder.refused(&list("k.i32", &["--room", "0"]), 4, 0);
+    folder.write("k.i32", raw(&samples[..60]));
+    folder.refused(&list("k.i32", &["--room", "0"]), 6, 5);
+}
+
+#[test]
+fn a_refusal_is_json_for_programs() {
+    let folder = Folder::new("refusal-json");
+    folder.write("k.csv", csv(&k2()));
+    let ran = folder.refused(&list("k.csv", &["--json", "--room", "0"]), 7, 1);
+    let wanted = "{\"refused\":{\"what\":\"k.csv\",\"number\":7,\"place\":1,\
+                  \"sentence\":\"the room is below 8 x the number of events, which is 1\"}}\n";
+    assert_eq!(ran.out, wanted);
+    assert_eq!(folder.refused(&list("k.csv", &["--csv", "--room", "0"]), 7, 1).out, "");
+}

@@ -1,0 +1,151 @@
+//! The report: well formed, by itself, true to the library's answers, and small for long recordings.
+mod common;
+use common::{blocks, csv, k2, raw, Folder, MISSING};
+
+/// A page over the recordings, for a site to which they were added.
+fn page(folder: &Folder, files: &[&str]) -> String {
+    folder.site("x.site");
+    folder.accepted(&[&["add", "x.site"][..], files].concat());
+    folder.accepted(&[&["report", "x.site"][..], files, &["-o", "x.html"]].concat());
+    folder.read("x.html")
+}
+
+/// The names of the open tags at each point close in order, and none is left open.
+fn assert_well_formed(page: &str) {
+    let mut open: Vec<String> = Vec::new();
+    let mut rest = page.split_once("<!DOCTYPE html>").expect("a doctype").1;
+    while let Some((_, tag)) = rest.split_once('<') {
+        let (tag, after) = tag.split_once('>').expect("a tag that ends");
+        rest = after;
+        let name: String = tag.trim_start_matches('/').chars().take_while(|c| c.is_alphanumeric()).collect();
+        if let Some(closed) = tag.strip_prefix('/') {
+            assert_eq!(open.pop().as_deref(), Some(closed), "closed out of order");
+        } else if !tag.ends_with('/') && name != "meta" {
+            open.push(name);
+        }
+    }
+    assert_eq!(open, Vec::<String>::new());
+}
+
+fn gap() -> Vec<i32> {
+    let mut samples = blocks(&[1000, 1000, 500, 500, 500, 500, 1000, 1000]);
+    samples[48] = MISSING;
+    samples
+}
+
+#[test]
+fn one_file_without_scripts_or_links() {
+    let folder = Folder::new("report-alone");
+    folder.write("k.csv", csv(&gap()));
+    folder.write("a<b>&\"c\".csv", csv(&k2()));
+    let page = page(&folder, &["k.csv", "a<b>&\"c\".csv"]);
+    assert_well_formed(&page);
+    let low = page.to_lowercase();
+    for foreign in ["<script", "javascript:", "http:", "https:", "src=", "href=", "@import", "onload", "<link"] {
+        assert!(!low.contains(foreign), "{foreign}");
+    }
+    assert!(page.contains("a&lt;b&gt;&amp;&quot;c&quot;.csv"), "names are text, whatever they hold");
+    for style in ["prefers-color-scheme: dark", "size: A4", "@media print"] {
+        assert!(page.contains(style), "{style}");
+    }
+}
+
+#[test]
+fn unknown_is_hatched_named_and_never_green() {
+    let folder = Folder::new("report-unknown");
+    folder.write("k.csv", csv(&gap()));
+    let page = page(&folder, &["k.csv"]);
+    assert_eq!(page.matches("class=\"hole\"").count(), 1);
+    assert!(page.contains(">unknown 3-4</text>"));
+    assert!(page.contains("half-cycles 3 to 4 (0.030 s to 0.050 s)"));
+    assert!(page.contains("unknown 2 (28.6 %)"));
+    assert!(page.contains(".hole, .share.unknown { fill: url(#hatch); }"));
+    assert_eq!(page.matches(".share.unknown").count(), 1, "no second rule gives it a colour");
+    let colour = |name: &str| page.split_once(&format!("--{name}: ")).unwrap().1.split(';').next().unwrap().to_string();
+    let parts = |hex: String| [1, 3, 5].map(|at| i32::from_str_radix(&hex[at..at + 2], 16).unwrap());
+    for name in ["hatch", "hatch-ground"] {
+        let [red, green, blue] = parts(colour(name));
+        assert!(green <= red.max(blue), "{name} is green: {red} {green} {blue}");
+    }
+}
+
+#[test]
+fn events_and_cells_are_the_librarys() {
+    let folder = Folder::new("report-events");
+    folder.write("k6.csv", csv(&blocks(&[1000, 1000, 0, 0, 1000, 1000])));
+    folder.write("k9.csv", csv(&gap()));
+    folder.write("k10.csv", csv(&blocks(&[1000, 1000, 1200, 1200, 1000, 1000])));
+    let page = page(&folder, &["k6.csv", "k9.csv", "k10.csv"]);
+    for (class, count) in [("bar sag", 3 + 3), ("bar interruption", 1), ("bar swell", 1)] {
+        // The key of each of the three drawings has a bar too.
+        assert_eq!(page.matches(&format!("class=\"{class}\"")).count(), count, "{class}");
+    }
+    // In the drawings: two sags without a score, one with it; and one of each in the key.
+    assert_eq!(page.matches("class=\"mark sag scored\"").count(), 1 + 1);
+    assert_eq!(page.matches("class=\"mark sag unscored\"").count(), 2 + 1);
+    for words in ["reason 1: only the start unseen", "reason 2: only the end unseen", "reason 4: not a sag"] {
+        assert!(page.contains(words), "{words}");
+    }
+    assert!(page.contains("<td>2.000</td><td>0.060 s</td><td>cell 1<i>row 0 (at most 10 %), column 1 (&lt; 0.1 s)</i>"));
+    let counts: Vec<&str> = page
+        .split("class=\"count heat")
+        .skip(1)
+        .map(|rest| rest.split_once('>').unwrap().1.split('<').next().unwrap())
+        .collect();
+    assert_eq!(counts.len(), 40);
+    let told = folder.accepted(&["show", "x.site", "--csv"]);
+    for (at, count) in counts.iter().enumerate() {
+        assert!(told.contains(&format!("\ncell-{at},{count}\n")), "cell {at}: {count}");
+    }
+}
+
+/// The curve comes from the library's scores: at 50 Hz it steps at 3, 21 and 51 half-cycles, to 50, 70 and 80 percent.
+#[test]
+fn the_severity_curve_has_four_levels() {
+    let folder = Folder::new("report-curve");
+    folder.write("k.csv", csv(&k2()));
+    let page = page(&folder, &["k.csv"]);
+    let path = page.split_once("<path class=\"severity\" d=\"").unwrap().1.split('"').next().unwrap();
+    assert_eq!((path.matches('M').count(), path.matches('V').count()), (1, 3), "{path}");
+}
+
+#[test]
+fn a_long_recording_makes_a_small_page() {
+    let folder = Folder::new("report-long");
+    // Each half cycle at another level, with sags, swells and gaps all over.
+    let level = |k: u64| 300 + (k * 7919 % 1000) as i32;
+    let mut samples = blocks(&(0..100_001).map(level).collect::<Vec<_>>());
+    samples.iter_mut().step_by(9973).for_each(|sample| *sample = MISSING);
+    folder.write("long.i32", raw(&samples));
+    let page = page(&folder, &["long.i32"]);
+    assert_well_formed(&page);
+    assert!(page.len() < 400_000, "{} bytes", page.len());
+    assert!(page.contains("more events: <code>burrcradle list</code> has them all"));
+}
+
+#[test]
+fn a_report_never_overwrites_what_it_is_made_from() {
+    let folder = Folder::new("report-overwrite");
+    folder.site("x.site");
+    folder.write("k.csv", csv(&k2()));
+    let before = (folder.read("x.site"), folder.read("k.csv"));
+    for out in ["x.site", "k.csv", "./k.csv"] {
+        folder.bad(&["report", "x.site", "k.csv", "-o", out], "would overwrite");
+    }
+    folder.accepted(&["report", "x.site", "k.csv", "-o", "x.html"]);
+    assert_eq!((folder.read("x.site"), folder.read("k.csv")), before);
+    assert_eq!(folder.counted("x.site", "total"), 0, "a report adds nothing");
+}
+
+#[test]
+fn parts_are_drawn_each_with_what_cutting_does() {
+    let folder = Folder::new("report-cut");
+    folder.site("x.site");
+    folder.write("long.i32", raw(&blocks(&vec![1000; 100_003])));
+    folder.refused(&["report", "x.site", "long.i32", "-o", "x.html"], 5, 0);
+    assert!(!folder.path("x.html").exists());
+    folder.accepted(&["report", "x.site", "long.i32", "--cut", "-o", "x.html"]);
+    let page = folder.read("x.html");
+    assert_eq!(page.matches("long.i32, part 2 of 2</h2>").count(), 1);
+    assert!(page.contains("from its half-cycle 100000 on: an event that reaches over a cut is told as two"));
+}
