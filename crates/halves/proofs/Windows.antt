@@ -19,14 +19,14 @@ use Rattle.rules.specs.declared.Settings.{Settings}
 use Rattle.rules.specs.declared.Half.the-variants.{Unknown, Known}
 use Rattle.rules.proofs.Ranges.{Good}
 use Rattle.rules.proofs.Bounded.{any-same, sum-same}
-use Rattle.rules.proofs.Samples.{any-at, sum-le, first-all, low, square-low}
+use Rattle.rules.proofs.Samples.{any-at, sum-le, first-found, low, square-low}
 use Rattle.halves.specs.Windows.{window, allInRange, missingIn, squaresIn, sumsIn, halfIn, sixIn, Ranged, Low}
 
 -- ---- a whole run: a bad sample is found exactly where the flags say that there is one
 
 pub bad-is : (xs : List ℤ) → ltb (firstBad xs) (length xs) ≡ not (allInRange xs)
 unfolding firstBad allInRange
-bad-is xs = first-all (λ i. inRange (getD xs i (pos 0))) (length xs)
+bad-is xs = first-found (λ i. inRange (getD xs i (pos 0))) (length xs)
 
 -- ---- a window that lacks no sample is low, and so are its sums so far
 

@@ -1,12 +1,12 @@
 -- Laws of the bounded tests, counts and sums. Assumes nothing.
-use Prim.Native.Nat.{ℕ, zero, suc, _+_, _-_, _≤_, _<_}
-use mathlib.Core.Path.{_≡_, refl, sym, ap, _∙_}
-use mathlib.Core.Bool.{Bool, true, false, not, _&&_, _||_, cond}
+use Prim.Native.Nat.{ℕ, zero, suc, _+_, _≤_, _<_}
+use mathlib.Core.Path.{_≡_, refl}
+use mathlib.Core.Bool.{Bool, true, false}
 use mathlib.Core.Logic.{⊎-elim}
 use native.Mathlib.Nat.{eq-or-lt-of-le}
 use native.Mathlib.Numerals.{add-one}
 use native.Mathlib.Omega.{arith}
-use Rattle.rules.specs.Bounded.{any, all, bit, count, sum, join, before, firstNot}
+use Rattle.rules.specs.Bounded.{any, all, count, sum}
 use Rattle.rules.proofs.Booleans.{bit-le, both}
 
 -- two tests that agree below n
@@ -49,9 +49,6 @@ pub count-more : (p : ℕ → Bool) (k n : ℕ) → k ≤ n → count p k ≤ co
 count-more p k zero l = let e : k ≡ 0 = omega arith in rw e (omega arith)
 count-more p k (suc n) l =
     ⊎-elim (λ e. rw e (omega arith)) (λ m. omega (arith, count-more p k n (omega arith))) (eq-or-lt-of-le l)
-
-pub count-next : (p : ℕ → Bool) (k : ℕ) → count p (k + 1) ≡ count p k + bit (p k)
-count-next p k = rw add-one
 
 pub sum-next : (f : ℕ → ℕ) (k : ℕ) → sum f (k + 1) ≡ sum f k + f k
 sum-next f k = rw add-one

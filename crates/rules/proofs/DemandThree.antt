@@ -32,9 +32,10 @@ use Rattle.rules.proofs.Borders.{cells-make-up}
 use Rattle.rules.proofs.Bounded.{count-le, sum-same}
 use Rattle.rules.proofs.Choices.{of-cond}
 use Rattle.rules.proofs.Classes.{count-cut, three-classes, placed-or-not}
-use Rattle.rules.proofs.DemandTwo.{Scorable, shorts-high, event-passes, reason-of, seen-both}
+use Rattle.rules.proofs.DemandTwo.{shorts-high, event-passes, reason-of, seen-both}
 use Rattle.rules.proofs.Ranges.{good}
-use Rattle.rules.proofs.Samples.{accepts, sum-le, goes-on}
+use Rattle.rules.proofs.Samples.{accepts, sum-le, goes-on, both-accept}
+use Rattle.rules.proofs.Scorable.{Scorable}
 use Rattle.rules.proofs.Shortfall.{shortfalls-agree}
 
 -- ---- recordings offered in sequence
@@ -180,10 +181,6 @@ pub record Adds (t : Table) (xs : List ℤ) : Type 0 where
   pub sound : isUnsound t ≡ false
   pub recording : recordingCheck (t .settings) xs ≡ Accepted
   pub fits : t .total + halvesOf (t .settings) xs ≤ mostHalves
-
-both-accept : (c d : Taken) → andThen c d ≡ Accepted → (c ≡ Accepted) × (d ≡ Accepted)
-both-accept Accepted d h = (refl, h)
-both-accept (Refused r) d h = let z : _≡_ {A = ℕ} 0 1 = cc in absurd (omega arith)
 
 pub adds : (t : Table) (xs : List ℤ) → addCheck t xs ≡ Accepted → Adds t xs
 unfolding addCheck soundCheck fullCheck

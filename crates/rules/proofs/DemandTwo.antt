@@ -35,6 +35,7 @@ use Rattle.rules.proofs.Order.{in-list}
 use Rattle.rules.proofs.Ranges.{Good, good}
 use Rattle.rules.proofs.Runs.{in-next}
 use Rattle.rules.proofs.Samples.{Accepts, accepts, sums-low, length-six, type-high}
+use Rattle.rules.proofs.Scorable.{event-bounds, unseen-is, Scorable, scorable}
 use Rattle.rules.proofs.Shortfall.{three-channels}
 
 -- ---- the list holds the longest unbroken runs of each kind
@@ -134,12 +135,17 @@ sag-extreme-below s h a e q =
 
 -- ---- a sag's shortfall is in range
 
-short-high : (s : Settings) (x : ℕ) → shortOf s x ≤ full s
-short-high s x = of-cond (λ v. v ≤ full s) (below s (s .sag) x) (full s - x) 0 (λ e. omega arith) (λ e. omega arith)
+-- of one channel, whichever test says that it is short
+pub short-high : (short : Bool) (full x : ℕ) → cond short (full - x) 0 ≤ full
+short-high true full x = omega arith
+short-high false full x = omega arith
 
 pub shorts-high : (s : Settings) (x : Half) → three (shorts s x) ≤ 3 * full s
 shorts-high s Unknown = omega arith
-shorts-high s (Known v) = omega (arith, short-high s (v .a), short-high s (v .b), short-high s (v .c))
+shorts-high s (Known v) = omega (arith, high (v .a), high (v .b), high (v .c))
+  where
+    high : (x : ℕ) → shortOf s x ≤ full s
+    high x = short-high (below s (s .sag) x) (full s) x
 
 from-high : (f : ℕ → ℕ) (b : ℕ) → ((k : ℕ) → f k ≤ b) → (start end : ℕ) → sumFrom f start end ≤ b * (end - start)
 from-high f b h start zero = omega arith
@@ -172,9 +178,9 @@ unfolding seenOf
 seen-high h a b = omega (arith, bit-le (startSeen h a), bit-le (endSeen h b))
 
 module _ (s : Settings) (xs : List ℤ) (g : Good s) (ok : Accepts s xs) where
-  in-bounds : (kind : Kind) (a : ℕ) → starts s (halfAt s xs) kind a ≡ true → inBounds s (eventFrom s xs kind a) ≡ true
+  bounds-pass : (kind : Kind) (a : ℕ) → starts s (halfAt s xs) kind a ≡ true → inBounds s (eventFrom s xs kind a) ≡ true
   unfolding inBounds eventFrom
-  in-bounds kind a e =
+  bounds-pass kind a e =
       let h = halfAt s xs in
       let n = halvesOf s xs in
       let b = endOf s h n kind a in
@@ -206,40 +212,11 @@ module _ (s : Settings) (xs : List ℤ) (g : Good s) (ok : Accepts s xs) where
 
   pub event-passes : (kind : Kind) (a : ℕ) → starts s (halfAt s xs) kind a ≡ true → isEvent s (eventFrom s xs kind a) ≡ true
   unfolding isEvent
-  event-passes kind a e = rw (in-bounds kind a e, eq-eqb (eventFrom s xs kind a .retained) (retainedOf s (eventFrom s xs kind a .extreme)) (retained-so kind a), by-kind kind a e)
+  event-passes kind a e = rw (bounds-pass kind a e, eq-eqb (eventFrom s xs kind a .retained) (retainedOf s (eventFrom s xs kind a .extreme)) (retained-so kind a), by-kind kind a e)
 
 -- ---- what has a score
 
--- exactly this: settings good, an event, a sag, both ends seen
-pub record Scorable (s : Settings) (e : Event) : Type 0 where
-  pub settings : settingsGood s ≡ true
-  pub event : isEvent s e ≡ true
-  pub sag : isSag e ≡ true
-  pub seen : e .seen ≡ 3
-
-no-reason : (a b c : Bool) (u : ℕ) → cond (not a) 6 (cond (not b) 5 (cond (not c) 4 u)) ≡ 0
-    → (a ≡ true) × (b ≡ true) × (c ≡ true) × (u ≡ 0)
-no-reason true true true u h = (refl, refl, refl, h)
-no-reason true true false u h = absurd (omega arith)
-no-reason true false c u h = absurd (omega arith)
-no-reason false b c u h = absurd (omega arith)
-
-all-seen : (seen : ℕ) → unseenOf seen ≡ 0 → seen ≡ 3
-all-seen seen h = go (eqb seen 3) (eqb seen 2) (eqb seen 1) h (eqb-true seen 3)
-  where
-    go : (a b c : Bool) → _≡_ {A = ℕ} (cond a 0 (cond b 1 (cond c 2 3))) 0 → (a ≡ true → seen ≡ 3) → seen ≡ 3
-    go true b c h f = f refl
-    go false true c h f = absurd (omega arith)
-    go false false true h f = absurd (omega arith)
-    go false false false h f = absurd (omega arith)
-
 module _ (s : Settings) (e : Event) where
-  scorable-of : reasonOf s e ≡ 0 → Scorable s e
-  unfolding reasonOf
-  scorable-of h =
-      let r = no-reason (settingsGood s) (isEvent s e) (isSag e) (unseenOf (e .seen)) h in
-      record { settings = r .0; event = r .1; sag = r .2; seen = all-seen (e .seen) (r .3) }
-
   pub reason-of : Scorable s e → reasonOf s e ≡ 0
   unfolding reasonOf
   reason-of r = rw (r .settings, r .event, r .sag, r .seen)
@@ -248,7 +225,7 @@ module _ (s : Settings) (e : Event) where
   pub scored-only : (x : Score) → scoring s e ≡ Scored x → Scorable s e × (x ≡ scoreOf s e)
   unfolding scoring
   scored-only x h =
-      let r = go (eqb (reasonOf s e) 0) h in (scorable-of (eqb-true (reasonOf s e) 0 (r .0)), r .1)
+      let r = go (eqb (reasonOf s e) 0) h in (scorable s e (eqb-true (reasonOf s e) 0 (r .0)), r .1)
     where
       go : (b : Bool) → cond b (Scored (scoreOf s e)) (Unscored (reasonOf s e)) ≡ Scored x → (b ≡ true) × (x ≡ scoreOf s e)
       go true h = (refl, cc)
@@ -263,7 +240,7 @@ module _ (s : Settings) (e : Event) where
   pub unseen-no-score : (e .seen ≡ 3 → ⊥) → (k : ℕ) × (k ≡ 0 → ⊥) × (scoring s e ≡ Unscored k)
   unfolding scoring
   unseen-no-score h =
-      let reason : reasonOf s e ≡ 0 → ⊥ = λ q. h (scorable-of q .seen) in
+      let reason : reasonOf s e ≡ 0 → ⊥ = λ q. h (scorable s e q .seen) in
       (reasonOf s e, reason, rw (ne-eqb (reasonOf s e) 0 reason))
 
 -- seen is 3 exactly if the start and the end are seen
@@ -299,7 +276,9 @@ module _ (s : Settings) (xs : List ℤ) (g : settingsGood s ≡ true) (ok : reco
   -- a sag with an unseen start or end has the reason of what is unseen
   pub unseen-sag-reason : isSag e ≡ true → (e .seen ≡ 3 → ⊥) → scoring s e ≡ Unscored (unseenOf (e .seen))
   unfolding scoring reasonOf
-  unseen-sag-reason sag h = rw (g, every-event-passes, sag, ne-eqb (unseenOf (e .seen)) 0 (λ q. h (all-seen (e .seen) q)))
+  unseen-sag-reason sag h =
+      let high = event-bounds s e every-event-passes .seen in
+      rw (g, every-event-passes, sag, ne-eqb (unseenOf (e .seen)) 0 (λ q. h (omega (arith, high, unseen-is (e .seen) high, q))))
 
   -- another kind has the reason "not a sag"
   pub other-no-score : isSag e ≡ false → scoring s e ≡ Unscored 4

@@ -6,7 +6,7 @@ use mathlib.Core.List.{List, [], _∷_}
 use mathlib.Core.Logic.{⊎-elim}
 use native.Mathlib.Nat.{eq-or-lt-of-le, mul-le-mul, mul-le-mul-right, div-mul-le-self, le-trans}
 use native.Mathlib.Omega.{arith}
-use borrow.Author.Tests.{ltb-true, ltb-false, le-ltb, leb-true, eqb-true, not-false, not-true}
+use borrow.Author.Tests.{ltb-true, ltb-false, leb-true, eqb-true, not-false, not-true}
 use lib.Dec.{leb, ltb, eqb}
 use lib.IntN.{ℤ, pos, natAbs}
 use lib.ListN.{length, getD}
@@ -14,7 +14,7 @@ use Rattle.rules.specs.Bounded.{any, all, sum, firstNot}
 use Rattle.rules.specs.Recorder.{sampleAt, missing, inRange, firstBad}
 use Rattle.rules.specs.Halves.{samplesOf, halvesOf, begin, anyMissing, square, squares, sumsAt, halfAt, known}
 use Rattle.rules.specs.Events.{plus, sixBelow, sixSums, numberOfFirst, smallest, largest, typeOf}
-use Rattle.rules.specs.Refusals.{recordingCheck, mostHalfCycles}
+use Rattle.rules.specs.Refusals.{recordingCheck, mostHalfCycles, andThen}
 use Rattle.rules.specs.declared.Settings.{Settings}
 use Rattle.rules.specs.declared.Sums.{Sums}
 use Rattle.rules.specs.declared.Half.the-variants.{Unknown, Known}
@@ -40,8 +40,8 @@ sum-le f b zero h = omega arith
 sum-le f b (suc n) h = omega (arith, sum-le f b n (λ j l. h j (omega arith)), h n (omega arith))
 
 -- there is one below n exactly where not every number below n passes
-pub first-all : (p : ℕ → Bool) (n : ℕ) → ltb (firstNot p 0 n) n ≡ not (all p n)
-first-all p n = by (all p n) (ltb (firstNot p 0 n) n) refl refl
+pub first-found : (p : ℕ → Bool) (n : ℕ) → ltb (firstNot p 0 n) n ≡ not (all p n)
+first-found p n = by (all p n) (ltb (firstNot p 0 n) n) refl refl
   where
     by : (every found : Bool) → all p n ≡ every → ltb (firstNot p 0 n) n ≡ found → found ≡ not every
     by true true e f =
@@ -66,6 +66,10 @@ pub record Accepts (s : Settings) (xs : List ℤ) : Type 0 where
 pub goes-on : (refused : Bool) (r : Refusal) (next : Taken) → cond refused (Refused r) next ≡ Accepted → (refused ≡ false) × (next ≡ Accepted)
 goes-on true r next h = let z : _≡_ {A = ℕ} 0 1 = cc in absurd (omega arith)
 goes-on false r next h = (refl, h)
+
+pub both-accept : (c d : Taken) → andThen c d ≡ Accepted → (c ≡ Accepted) × (d ≡ Accepted)
+both-accept Accepted d h = (refl, h)
+both-accept (Refused r) d h = let z : _≡_ {A = ℕ} 0 1 = cc in absurd (omega arith)
 
 none-bad : (xs : List ℤ) → length xs ≤ firstBad xs → (i : ℕ) → i < length xs → inRange (getD xs i (pos 0)) ≡ true
 unfolding firstBad
@@ -168,13 +172,13 @@ length-plus [] ys h = refl
 length-plus (x ∷ xs) [] h = absurd (omega arith)
 length-plus (x ∷ xs) (y ∷ ys) h = ap suc (length-plus xs ys (omega arith))
 
-length-below : (f : ℕ → List ℕ) → ((i : ℕ) → length (f i) ≡ 6) → (n : ℕ) → length (sixBelow f n) ≡ 6
-length-below f h zero = refl
-length-below f h (suc n) = length-plus (sixBelow f n) (f n) (length-below f h n ∙ sym (h n)) ∙ length-below f h n
+length-sixes : (f : ℕ → List ℕ) → ((i : ℕ) → length (f i) ≡ 6) → (n : ℕ) → length (sixBelow f n) ≡ 6
+length-sixes f h zero = refl
+length-sixes f h (suc n) = length-plus (sixBelow f n) (f n) (length-sixes f h n ∙ sym (h n)) ∙ length-sixes f h n
 
 pub length-six : (s : Settings) (xs : List ℤ) (k : ℕ) → length (sixSums s xs k) ≡ 6
 unfolding sixSums
-length-six s xs k = length-below _ (λ i. refl) (s .n)
+length-six s xs k = length-sixes _ (λ i. refl) (s .n)
 
 number-high : (xs : List ℕ) (v : ℕ) → numberOfFirst xs v ≤ length xs
 number-high [] v = omega arith

@@ -30,13 +30,20 @@ module _ (f : ℕ → ℕ) where
   from-none : (a e : ℕ) → e ≤ a → sumFrom f a e ≡ 0
   from-none a e l = sum-none (λ k. cond (ltb k a) 0 (f k)) e (λ k u. rw (lt-ltb k a (omega arith)))
 
+  -- the last of them apart
+  pub from-more : (a e : ℕ) → a ≤ e → sumFrom f a (suc e) ≡ sumFrom f a e + f e
+  from-more a e l = rw (le-ltb e a l)
+
+  pub from-one : (a : ℕ) → sumFrom f a (suc a) ≡ f a
+  from-one a = from-more a a (omega arith) ∙ omega (arith, from-none a a (omega arith))
+
   -- the first of them apart
   from-first : (a e : ℕ) → a < e → sumFrom f a e ≡ f a + sumFrom f (suc a) e
   from-first a zero l = absurd (omega arith)
   from-first a (suc e) l =
       ⊎-elim
-      (λ q. rw q (rw (le-ltb e e (omega arith), lt-ltb e (suc e) (omega arith)) (omega (arith, from-none e e (omega arith), from-none (suc e) e (omega arith)))))
-      (λ u. rw (le-ltb e a (omega arith), le-ltb e (suc a) (omega arith)) (omega (arith, from-first a e u)))
+      (λ q. rw q (omega (arith, from-one e, from-none (suc e) (suc e) (omega arith))))
+      (λ u. omega (arith, from-more a e (omega arith), from-more (suc a) e u, from-first a e u))
       (eq-or-lt-of-le {n = a} {m = e} (omega arith))
 
 -- ---- over any test

@@ -1,23 +1,22 @@
 -- The lister's answers: what the checks say, and that room for an eighth as many events is room for their numbers. Assumes nothing.
-use Prim.Native.Nat.{ℕ, _+_, _*_, _/_, _≤_, _<_}
-use mathlib.Core.Path.{_≡_, refl, sym, ap, _∙_}
+use Prim.Native.Nat.{ℕ, _*_, _/_, _≤_, _<_}
+use mathlib.Core.Path.{_≡_, refl, sym, _∙_}
 use mathlib.Core.Bool.{Bool, true, false, cond}
-use mathlib.Core.List.{List, _++_}
+use mathlib.Core.List.{List}
 use native.Mathlib.Omega.{arith}
 use borrow.Author.Tests.{lt-ltb, le-ltb}
 use lib.Dec.{ltb}
-use lib.ListN.{length, drop}
+use lib.ListN.{length}
 use lib.IntN.{ℤ}
 use Rattle.rules.specs.Recorder.{settingsGood, badSetting}
 use Rattle.rules.specs.EventList.{eventsOf, flat}
-use Rattle.rules.specs.Refusals.{settingsCheck, recordingCheck, roomCheck, listCheck, byCheck, andThen, listed, written}
+use Rattle.rules.specs.Refusals.{settingsCheck, recordingCheck, roomCheck, listCheck, andThen, listed, written}
 use Rattle.rules.proofs.Order.{flat-length}
 use Rattle.rules.specs.declared.Settings.{Settings}
 use Rattle.rules.specs.declared.Refusal.{Refusal}
 use Rattle.rules.specs.declared.Refusal.the-variants.{Setting, Room}
 use Rattle.rules.specs.declared.Taken.{Taken}
 use Rattle.rules.specs.declared.Taken.the-variants.{Accepted, Refused}
-use Rattle.rules.specs.declared.Listed.{Listed}
 use Rattle.rules.specs.declared.Listed.the-variants.{Events, Turned}
 use Rattle.sags.specs.Listing.{over}
 
@@ -37,11 +36,6 @@ settings-accepted s e = either (settingsGood s) e
 pub settings-good : (s : Settings) → settingsGood s ≡ true → settingsCheck s ≡ Accepted
 unfolding settingsCheck
 settings-good s e = rw e
-
--- both checks accept
-pub both-accept : (a b : Taken) → andThen a b ≡ Accepted → (a ≡ Accepted) × (b ≡ Accepted)
-both-accept Accepted b e = (refl, e)
-both-accept (Refused r) b e = absurd (never r e)
 
 module _ (s : Settings) (xs : List ℤ) where
   -- ---- a refusal before the room is looked at

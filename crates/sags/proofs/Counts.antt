@@ -1,31 +1,29 @@
 -- Counts of an offered table, any numbers: what adds up, told without a sum that wraps; and two tables added. Assumes nothing.
 use Prim.Native.Nat.{ℕ, zero, suc, _+_, _-_, _*_, _≤_, _<_, min}
-use mathlib.Core.Path.{_≡_, refl, sym, ap, subst, _∙_}
-use mathlib.Core.Bool.{Bool, true, false, not, _&&_, _||_, cond, false≢true}
+use mathlib.Core.Path.{_≡_, sym, ap, subst, _∙_}
+use mathlib.Core.Bool.{Bool, true, false, _&&_, _||_, cond}
 use mathlib.Core.Logic.{⊎-elim}
 use mathlib.Core.List.{List, [], _∷_}
-use native.Mathlib.Nat.{zero-add, add-zero, eq-or-lt-of-le, mul-le-mul}
+use native.Mathlib.Nat.{zero-add, eq-or-lt-of-le, mul-le-mul}
 use native.Mathlib.Numerals.{add-one}
 use native.Mathlib.Omega.{arith}
-use borrow.Author.Tests.{ltb-true, ltb-false, lt-ltb, le-ltb, eqb-true, eqb-false, eq-eqb, ne-eqb, not-true, not-false}
-use lib.Dec.{ltb, leb, eqb}
+use borrow.Author.Tests.{ltb-true, ltb-false, lt-ltb, le-ltb, eqb-true, eqb-false, eq-eqb, ne-eqb}
+use lib.Dec.{ltb, eqb}
 use lib.IntN.{ℤ}
-use lib.ListN.{length, getD, drop, set, replicate, length-set, length-replicate, getD-replicate, List·getD-eq-default}
+use lib.ListN.{length, getD, drop, set, replicate, getD-replicate, List·getD-eq-default}
 use lib.Seq.{drop-cons, ext-getD, getD-set-same, getD-set-other}
 use Rattle.rules.specs.Bounded.{count}
 use Rattle.rules.specs.Recorder.{settingsGood, badSetting}
 use Rattle.rules.specs.Halves.{halfAt, halvesOf, full}
-use Rattle.rules.specs.Site.{cells, isPlaced, sagCell, total, cellsFrom, mostHalves, empty, grown, isUnsound}
-use Rattle.rules.specs.Refusals.{recordingCheck, soundCheck, fullCheck, addCheck, byCheck, andThen, added}
+use Rattle.rules.specs.Site.{cells, isPlaced, sagCell, total, cellsFrom, empty, grown, isUnsound}
+use Rattle.rules.specs.Refusals.{recordingCheck, soundCheck, fullCheck, addCheck, added}
 use Rattle.rules.proofs.Booleans.{cases, neither, not-both}
 use Rattle.rules.proofs.Choices.{lower}
-use Rattle.rules.proofs.Ranges.{Good, good, full-high}
+use Rattle.rules.proofs.Ranges.{good, full-high}
 use Rattle.rules.proofs.DemandThree.{cells-length, cells-at, Sound, sound-parts, sound-made, grown-sound}
-use Rattle.rules.specs.declared.Settings.{Settings}
 use Rattle.rules.specs.declared.Table.{Table}
 use Rattle.rules.specs.declared.Refusal.{Refusal}
 use Rattle.rules.specs.declared.Refusal.the-variants.{Full, Unsound}
-use Rattle.rules.specs.declared.Taken.{Taken}
 use Rattle.rules.specs.declared.Taken.the-variants.{Accepted, Refused}
 use Rattle.rules.specs.declared.Site.{Site as Handed}
 use Rattle.sags.specs.Sites.{Mergeable, merged}

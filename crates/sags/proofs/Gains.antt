@@ -1,25 +1,23 @@
 -- The survey after the last half-cycle is the table of the recording: cells, bounds, and what all landings make up. Assumes nothing.
 use Prim.Native.Nat.{ℕ, zero, suc, _+_, _-_, _*_, _≤_, _<_}
 use mathlib.Core.Path.{_≡_, refl, sym, ap, subst, _∙_}
-use mathlib.Core.Bool.{Bool, true, false, not, _&&_, _||_, cond, false≢true}
+use mathlib.Core.Bool.{Bool, true, false, not, _&&_, cond}
 use mathlib.Core.Logic.{⊎-elim}
 use mathlib.Core.List.{List, [], _∷_}
-use native.Mathlib.Nat.{add-zero, zero-add, eq-or-lt-of-le, mul-le-mul, mul-le-mul-right, mul-one}
-use native.Mathlib.Numerals.{add-one}
+use native.Mathlib.Nat.{add-zero, zero-add, eq-or-lt-of-le, mul-le-mul}
 use native.Mathlib.Omega.{arith}
-use native.Mathlib.Decide.{decLe}
-use borrow.Author.Tests.{eq-eqb, ne-eqb, eqb-true, eqb-false}
+use borrow.Author.Tests.{eqb-true, eqb-false}
 use lib.Dec.{eqb}
 use lib.IntN.{ℤ}
-use lib.ListN.{length, getD, set, replicate, length-set, length-replicate, getD-replicate, List·getD-eq-default}
+use lib.ListN.{length, getD, set, replicate, length-set, getD-replicate, List·getD-eq-default}
 use lib.Seq.{ext-getD, getD-set-same, getD-set-other}
 use Rattle.rules.specs.Bounded.{before, bit, count, sum}
 use Rattle.rules.specs.Halves.{known, halfAt, halvesOf, full}
-use Rattle.rules.specs.Events.{inEvent, starts, endOf, extremeOf, shortsOf, three}
+use Rattle.rules.specs.Events.{inEvent, starts}
 use Rattle.rules.specs.EventList.{eventFrom}
-use Rattle.rules.specs.Site.{cells, cellAt, isPlaced, isUnplaced, sagCell, isStray, sagShortfalls, sagShort, cellsFrom, empty, grown}
+use Rattle.rules.specs.Site.{cells, cellAt, isPlaced, isUnplaced, sagCell, isStray, sagShortfalls, sagShort, cellsFrom}
 use Rattle.rules.proofs.Booleans.{cases, bit-le}
-use Rattle.rules.proofs.Bounded.{sum-same, count-le}
+use Rattle.rules.proofs.Bounded.{sum-same}
 use Rattle.rules.proofs.Choices.{lower}
 use Rattle.rules.proofs.Longest.{in-past, half-past}
 use Rattle.rules.proofs.Borders.{sag-cell-high}
@@ -29,14 +27,12 @@ use Rattle.rules.proofs.Shortfall.{shortfalls-agree}
 use Rattle.rules.proofs.DemandThree.{cells-length, cells-at, sag-short-high}
 use Rattle.rules.specs.declared.Settings.{Settings}
 use Rattle.rules.specs.declared.Half.{Half}
-use Rattle.rules.specs.declared.Half.the-variants.{Unknown, Known}
+use Rattle.rules.specs.declared.Half.the-variants.{Unknown}
 use Rattle.rules.specs.declared.Kind.{Kind}
-use Rattle.rules.specs.declared.Kind.the-variants.{Sag, Interruption, Swell}
-use Rattle.rules.specs.declared.Table.{Table}
+use Rattle.rules.specs.declared.Kind.the-variants.{Sag, Interruption}
 use Rattle.sags.specs.declared.kinds.Open.{Open}
 use Rattle.sags.specs.Kinds.{opens}
 use Rattle.sags.specs.Sites.{cellsBy, landed, seenBoth, shortfallFrom, strayFrom, landedAt, cellsAt}
-use Rattle.sags.proofs.Going.{Going}
 use Rattle.sags.proofs.Surveys.{bit-and, lands, landing, lands-at, seen-is, landed-starts}
 
 -- ---- cells

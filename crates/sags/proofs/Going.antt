@@ -1,50 +1,39 @@
 -- The event that is going on before half-cycle k: where it started, all that it has met so far, and what it comes to when k ends
 -- it. Assumes nothing.
 use Prim.Native.Nat.{ℕ, zero, suc, _+_, _-_, _*_, _≤_, _<_, min, max}
-use mathlib.Core.Path.{_≡_, refl, sym, ap, subst, _∙_}
-use mathlib.Core.Bool.{Bool, true, false, not, _&&_, _||_, cond, false≢true}
-use mathlib.Core.Logic.{_⊎_, inl, inr, ⊎-elim}
+use mathlib.Core.Path.{_≡_, refl, sym, subst, _∙_}
+use mathlib.Core.Bool.{true, false, not, cond, false≢true}
+use mathlib.Core.Logic.{⊎-elim}
 use mathlib.Core.List.{List}
 use native.Mathlib.Nat.{eq-or-lt-of-le}
 use native.Mathlib.Omega.{arith}
 use borrow.Author.Tests.{ltb-true, ltb-false, eqb-true, eqb-false, eq-eqb, ne-eqb, lt-ltb, le-ltb}
 use lib.Dec.{ltb, eqb}
 use lib.IntN.{ℤ}
-use Rattle.rules.specs.Bounded.{before, sum, bit, firstNot}
+use Rattle.rules.specs.Bounded.{before, bit}
 use Rattle.rules.specs.Halves.{known, halfAt, halvesOf}
-use Rattle.rules.specs.Events.{inEvent, starts, endOf, startSeen, seenOf, level, worse, worst, extremeOf, earliest, retainedOf, shorts, shortsOf, sumFrom, three, sixSums, typeOf}
+use Rattle.rules.specs.Events.{inEvent, starts, endOf, startSeen, seenOf, level, worse, worst, extremeOf, earliest, retainedOf, shorts, shortsOf, three, sixSums, typeOf}
 use Rattle.rules.specs.EventList.{kindNumber, ofSag, eventFrom}
-use Rattle.rules.proofs.Booleans.{cases, not-both, and-true}
+use Rattle.rules.proofs.Booleans.{cases}
+use Rattle.rules.proofs.Choices.{of-cond}
 use Rattle.rules.proofs.Runs.{first-is, first-ends}
+use Rattle.rules.proofs.Shortfall.{from-one, from-more}
 use Rattle.rules.specs.declared.Settings.{Settings}
-use Rattle.rules.specs.declared.Sums.{Sums}
 use Rattle.rules.specs.declared.Half.{Half}
 use Rattle.rules.specs.declared.Kind.{Kind}
 use Rattle.rules.specs.declared.Kind.the-variants.{Sag, Interruption, Swell}
-use Rattle.rules.specs.declared.Event.{Event}
 use Rattle.sags.specs.declared.kinds.Level.{Level}
 use Rattle.sags.specs.declared.kinds.Open.{Open}
-use Rattle.sags.specs.Kinds.{levelOf, peakOf, addSums, lasting, launched, closed, opens}
-use Rattle.sags.proofs.Machine.{peak-is, short-is, inside-is, opens-closed, opens-lasts, opens-launches}
+use Rattle.sags.specs.Kinds.{levelOf, peakOf, addSums, lasting, launched, opens}
+use Rattle.sags.proofs.Machine.{peak-is, short-is, inside-is, opens-lasts, opens-launches}
 
--- ---- the worst of a range and the sum over one, a turn at a time
+-- ---- the worst of a range, a turn at a time
 
 worst-one : (pick : ℕ → ℕ → ℕ) (f : ℕ → ℕ) (s : ℕ) → worst pick f s (suc s) ≡ f s
 worst-one pick f s = rw (le-ltb s s (omega arith))
 
 worst-next : (pick : ℕ → ℕ → ℕ) (f : ℕ → ℕ) (s k : ℕ) → s < k → worst pick f s (suc k) ≡ pick (worst pick f s k) (f k)
 worst-next pick f s k l = rw (lt-ltb s k l)
-
-sum-none : (f : ℕ → ℕ) (n : ℕ) → ((j : ℕ) → j < n → f j ≡ 0) → sum f n ≡ 0
-sum-none f zero h = refl
-sum-none f (suc n) h = rw (sum-none f n (λ j l. h j (omega arith)), h n (omega arith))
-
-sum-one : (f : ℕ → ℕ) (s : ℕ) → sumFrom f s (suc s) ≡ f s
-sum-one f s =
-    rw (sum-none (λ k. cond (ltb k s) 0 (f k)) s (λ j l. rw (lt-ltb j s l)), le-ltb s s (omega arith)) (omega arith)
-
-sum-more : (f : ℕ → ℕ) (s k : ℕ) → s ≤ k → sumFrom f s (suc k) ≡ sumFrom f s k + f k
-sum-more f s k l = rw (le-ltb k s l)
 
 -- ---- the worse of two levels, over the kind
 
@@ -119,13 +108,13 @@ module _ (s : Settings) (h : ℕ → Half) (kind : Kind) where
         short =
             q
             ∙ sym (rw (
-              sum-one (λ j. shorts s (h j) .a) k,
-              sum-one (λ j. shorts s (h j) .b) k,
-              sum-one (λ j. shorts s (h j) .c) k,
+              from-one (λ j. shorts s (h j) .a) k,
+              from-one (λ j. shorts s (h j) .b) k,
+              from-one (λ j. shorts s (h j) .c) k,
             ));
       }
 
-  -- the parts of a lasting event that do not ask whether the extreme is new
+  -- an event that lasts: its extreme stays where it was, or is new at k
   at-last : (k : ℕ) (o : Open) (l : Level) → peakOf kind l ≡ level kind (h k) → l .short ≡ shorts s (h k)
       → inEvent s h kind k ≡ true → Going k o → Going (suc k) (lasting kind k o l)
   unfolding extremeOf shortsOf
@@ -136,47 +125,32 @@ module _ (s : Settings) (h : ℕ → Half) (kind : Kind) where
       rw (p, g .extreme) (sym (worst-next (worse kind) f (o .start) k (g .started))) in
       let short : addSums (o .short) (l .short) ≡ shortsOf s h (o .start) (suc k) =
       rw (g .short, q) (sym (rw (
-        sum-more (λ j. shorts s (h j) .a) (o .start) k (omega (arith, g .started)),
-        sum-more (λ j. shorts s (h j) .b) (o .start) k (omega (arith, g .started)),
-        sum-more (λ j. shorts s (h j) .c) (o .start) k (omega (arith, g .started)),
+        from-more (λ j. shorts s (h j) .a) (o .start) k (omega (arith, g .started)),
+        from-more (λ j. shorts s (h j) .b) (o .start) k (omega (arith, g .started)),
+        from-more (λ j. shorts s (h j) .c) (o .start) k (omega (arith, g .started)),
       ))) in
       let no-worse : (m : ℕ) → o .start ≤ m → m < suc k → worse kind new (level kind (h m)) ≡ new =
       reach (λ m. worse kind new (level kind (h m)) ≡ new) (o .start) k
       (λ m x y. worse-still kind (o .extreme) (peakOf kind l) (level kind (h m)) (g .no-worse m x y))
       (rw (← p) (worse-new kind (o .extreme) (peakOf kind l))) in
-      let through = reach (λ m. inEvent s h kind m ≡ true) (o .start) k (g .through) i in
-      ⊎-elim
-      (λ same.
-      let e : new ≡ o .extreme = eqb-true new (o .extreme) same in
+      let place : (P : ℕ → Type 0) → (new ≡ o .extreme → P (o .at)) → ((new ≡ o .extreme → ⊥) → P k) → P (cond (eqb new (o .extreme)) (o .at) k) =
+      λ P old late. of-cond P (eqb new (o .extreme)) (o .at) k (λ e. old (eqb-true new (o .extreme) e)) (λ e. late (eqb-false new (o .extreme) e)) in
       record {
         started = omega (arith, g .started);
         launch = g .launch;
-        through = through;
+        through = reach (λ m. inEvent s h kind m ≡ true) (o .start) k (g .through) i;
         seen = g .seen;
         extreme = is;
-        at-low = rw same (g .at-low);
-        at-high = rw same (omega (arith, g .at-high));
-        at-is = rw same (g .at-is ∙ sym e);
-        at-first = rw same (λ m x y z. g .at-first m x y (z ∙ e));
+        at-low = place (λ x. o .start ≤ x) (λ e. g .at-low) (λ n. omega (arith, g .started));
+        at-high = place (λ x. x < suc k) (λ e. omega (arith, g .at-high)) (λ n. omega arith);
+        at-is = place (λ x. level kind (h x) ≡ new) (λ e. g .at-is ∙ sym e) (λ n. sym (worse-pick kind (o .extreme) (peakOf kind l) n ∙ p));
+        at-first =
+            place (λ x. (m : ℕ) → o .start ≤ m → m < x → level kind (h m) ≡ new → ⊥)
+            (λ e m x y z. g .at-first m x y (z ∙ e))
+            (λ n m x y z. worse-never kind (o .extreme) (peakOf kind l) (level kind (h m)) (g .no-worse m x y) n z);
         no-worse = no-worse;
         short = short;
-      })
-      (λ other.
-      let n : new ≡ o .extreme → ⊥ = eqb-false new (o .extreme) other in
-      record {
-        started = omega (arith, g .started);
-        launch = g .launch;
-        through = through;
-        seen = g .seen;
-        extreme = is;
-        at-low = rw other (omega (arith, g .started));
-        at-high = rw other (omega arith);
-        at-is = rw other (sym (worse-pick kind (o .extreme) (peakOf kind l) n ∙ p));
-        at-first = rw other (λ m x y z. worse-never kind (o .extreme) (peakOf kind l) (level kind (h m)) (g .no-worse m x y) n z);
-        no-worse = no-worse;
-        short = short;
-      })
-      (cases (eqb new (o .extreme)))
+      }
 
   -- THE LAW: inside, the machine holds the event that is going on
   pub going : (k : ℕ) → opens s h kind k .inside ≡ true → Going k (opens s h kind k)

@@ -1,45 +1,34 @@
 -- What keeps the machine's numbers within 64 bits, for an accepted recording. Assumes nothing.
-use Prim.Native.Nat.{ℕ, zero, suc, _+_, _-_, _*_, _≤_, _<_, min, max}
-use mathlib.Core.Path.{_≡_, refl, sym, ap, subst, _∙_}
-use mathlib.Core.Bool.{Bool, true, false, not, _&&_, _||_, cond}
+use Prim.Native.Nat.{ℕ, zero, suc, _+_, _*_, _≤_}
+use mathlib.Core.Path.{_≡_, refl}
+use mathlib.Core.Bool.{true}
 use mathlib.Core.Logic.{⊎-elim}
 use mathlib.Core.List.{List}
-use native.Mathlib.Nat.{mul-le-mul, mul-le-mul-right, le-refl, suc-mul}
+use native.Mathlib.Nat.{mul-le-mul, mul-le-mul-right, suc-mul}
 use native.Mathlib.Omega.{arith}
 use lib.Dec.{ltb}
 use lib.IntN.{ℤ}
-use Rattle.rules.specs.Bounded.{before}
-use Rattle.rules.specs.Halves.{known, halfAt, halvesOf, full}
-use Rattle.rules.specs.Events.{inEvent, level, levelBy as levelOfKind, worse, worst, extremeOf}
-use Rattle.rules.specs.Refusals.{recordingCheck}
+use Rattle.rules.specs.Halves.{halfAt, full}
+use Rattle.rules.specs.Events.{inEvent}
 use Rattle.rules.proofs.Booleans.{cases}
-use Rattle.rules.proofs.Ranges.{Good, good, full-high}
-use Rattle.rules.proofs.Samples.{Accepts, accepts, sums-low}
+use Rattle.rules.proofs.DemandTwo.{extreme-high, short-high}
+use Rattle.rules.proofs.Ranges.{Good, full-high}
+use Rattle.rules.proofs.Samples.{Accepts, sums-low}
 use Rattle.rules.proofs.Longest.{in-known}
 use Rattle.rules.specs.declared.Settings.{Settings}
 use Rattle.rules.specs.declared.Sums.{Sums}
 use Rattle.rules.specs.declared.Half.{Half}
 use Rattle.rules.specs.declared.Half.the-variants.{Unknown, Known}
 use Rattle.rules.specs.declared.Kind.{Kind}
-use Rattle.rules.specs.declared.Kind.the-variants.{Sag, Interruption, Swell}
-use Rattle.sags.specs.declared.kinds.Level.{Level}
-use Rattle.sags.specs.declared.kinds.Thresholds.{Thresholds}
 use Rattle.sags.specs.declared.kinds.Open.{Open}
-use Rattle.sags.specs.Kinds.{markOf, thresholdsOf, shortBy, levelBy, levelOf, peakOf, lasting, launched, closed, opens, Low, Few, Light}
+use Rattle.sags.specs.Kinds.{markOf, thresholdsOf, shortBy, levelBy, levelOf, opens, Low, Few, Light}
 use Rattle.sags.specs.Listing.{Marked, Sound}
-use Rattle.sags.proofs.Machine.{peak-is, inside-is, opens-closed, opens-lasts, opens-launches}
+use Rattle.sags.proofs.Machine.{opens-closed, opens-lasts, opens-launches}
 use Rattle.sags.proofs.Going.{Going, going}
 
 pub level-low : (full from : ℕ) (v : Half) → Few v → Low (levelBy full from v)
 level-low full from Unknown f = (omega arith, omega arith)
 level-low full from (Known v) f = (omega (arith, f .0), omega (arith, f .0, f .1, f .2))
-
-short-high : (full from S : ℕ) → shortBy full from S ≤ full
-short-high full from S = either (ltb (10000 * S) from)
-  where
-    either : (b : Bool) → cond b (full - S) 0 ≤ full
-    either true = omega arith
-    either false = omega arith
 
 -- a half-cycle's shortfall of a channel is at most N x R x R
 abbrev pub Small : Sums → ℕ → Type 0
@@ -47,7 +36,10 @@ Small v b = (v .a ≤ b) × (v .b ≤ b) × (v .c ≤ b)
 
 pub level-small : (full from : ℕ) (v : Half) → Small (levelBy full from v .short) full
 level-small full from Unknown = (omega arith, omega arith, omega arith)
-level-small full from (Known v) = (short-high full from (v .a), short-high full from (v .b), short-high full from (v .c))
+level-small full from (Known v) = (high (v .a), high (v .b), high (v .c))
+  where
+    high : (x : ℕ) → shortBy full from x ≤ full
+    high x = short-high (ltb (10000 * x) from) full x
 
 pub light : (v : Sums) (b : ℕ) → b ≤ 1000000000000000000 → Small v b → Light v
 light v b h f = (omega (arith, f .0), omega (arith, f .1), omega (arith, f .2))
@@ -69,16 +61,8 @@ module _ (s : Settings) (xs : List ℤ) (g : Good s) (ok : Accepts s xs) where
 
   -- ---- the level of the extreme
 
-  peak-low : (kind : Kind) (v : Half) → ((w : Sums) → v ≡ Known w → Small w (s .n * 10000000000)) → level kind v ≤ s .n * 10000000000
-  peak-low kind Unknown f = omega arith
-  peak-low Sag (Known w) f = omega (arith, f w refl .0)
-  peak-low Interruption (Known w) f = omega (arith, f w refl .0)
-  peak-low Swell (Known w) f = let r = f w refl in omega (arith, r .0, r .1, r .2)
-
   pub extreme-low : (kind : Kind) (k : ℕ) (o : Open) → Going s (halfAt s xs) kind k o → o .extreme ≤ s .n * 10000000000
-  extreme-low kind k o w =
-      subst (λ (x : ℕ). x ≤ s .n * 10000000000) (w .at-is)
-      (peak-low kind (halfAt s xs (o .at)) (λ v e. sums-low s xs g ok (o .at) v e))
+  extreme-low kind k o w = rw (w .extreme) (extreme-high s xs g ok kind (o .start) k)
 
   -- ---- shortfalls grow by N x R x R a half-cycle at the most
 

@@ -1,17 +1,16 @@
 -- The machine of a kind says what the rules say: its state before half-cycle k is the event that is going on there. Assumes nothing.
-use Prim.Native.Nat.{ℕ, zero, suc, _+_, _-_, _*_, _≤_, _<_, min, max}
-use mathlib.Core.Path.{_≡_, refl, sym, ap, _∙_}
-use mathlib.Core.Bool.{Bool, true, false, not, _&&_, _||_, cond}
+use Prim.Native.Nat.{ℕ, zero, suc, _+_, _-_, _*_, min, max}
+use mathlib.Core.Path.{_≡_, refl, sym, _∙_}
+use mathlib.Core.Bool.{Bool, true, false, not, _&&_, _||_}
 use mathlib.Core.Logic.{⊎-elim}
-use native.Mathlib.Nat.{eq-or-lt-of-le}
 use native.Mathlib.Omega.{arith}
-use borrow.Author.Tests.{ltb-true, ltb-false, lt-ltb, le-ltb, leb-true, leb-false, eq-eqb, ne-eqb}
-use lib.Dec.{ltb, leb, eqb}
-use Rattle.rules.specs.Bounded.{before, sum, firstNot}
+use borrow.Author.Tests.{ltb-true, ltb-false, lt-ltb, le-ltb, leb-true, leb-false}
+use lib.Dec.{ltb, leb}
+use Rattle.rules.specs.Bounded.{before}
 use Rattle.rules.specs.Halves.{known}
-use Rattle.rules.specs.Events.{inEvent, starts, endOf, startSeen, level, worse, worst, extremeOf, earliest, shorts, shortsOf, sumFrom}
-use Rattle.rules.proofs.Booleans.{cases, not-both}
-use Rattle.rules.proofs.Runs.{goesOn, in-next, first-is, first-ends}
+use Rattle.rules.specs.Events.{inEvent, level, shorts}
+use Rattle.rules.proofs.Booleans.{cases}
+use Rattle.rules.proofs.Runs.{goesOn, in-next}
 use Rattle.rules.specs.declared.Settings.{Settings}
 use Rattle.rules.specs.declared.Sums.{Sums}
 use Rattle.rules.specs.declared.Half.{Half}
@@ -21,7 +20,7 @@ use Rattle.rules.specs.declared.Kind.the-variants.{Sag, Interruption, Swell}
 use Rattle.sags.specs.declared.kinds.Marks.{Marks}
 use Rattle.sags.specs.declared.kinds.Level.{Level}
 use Rattle.sags.specs.declared.kinds.Open.{Open}
-use Rattle.sags.specs.Kinds.{markOf, marksOf, levelOf, peakOf, addSums, goesBy, stepBy, lasting, launched, closed, opens}
+use Rattle.sags.specs.Kinds.{markOf, marksOf, levelOf, peakOf, goesBy, stepBy, lasting, launched, closed, opens}
 
 -- ---- the three cases of a step
 module _ (kind : Kind) (m : Marks) (seen : Bool) (k : ℕ) (o : Open) (l : Level) where
@@ -138,6 +137,10 @@ step-inside kind m seen k o l =
     (cases (goesBy kind m (o .inside) l))
 
 module _ (s : Settings) (h : ℕ → Half) (kind : Kind) where
+  -- the test at half-cycle k, from where the kind stood before
+  pub goes-here : (k : ℕ) → goesBy kind (marksOf s kind) (before (inEvent s h kind) k) (levelOf s (h k)) ≡ inEvent s h kind k
+  goes-here k = goes-is s (before (inEvent s h kind) k) kind (h k) ∙ sym (in-next s h kind k)
+
   -- THE LAW: the machine is inside an event before half-cycle k exactly if half-cycle k - 1 is in one
   pub inside-is : (k : ℕ) → opens s h kind k .inside ≡ before (inEvent s h kind) k
   unfolding opens

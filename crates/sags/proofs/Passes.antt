@@ -1,18 +1,17 @@
 -- A turn of the survey, and its end: what each call asks, and what they make together. Assumes nothing.
-use Prim.Native.Nat.{ℕ, zero, suc, _+_, _-_, _*_, _≤_, _<_}
-use mathlib.Core.Path.{_≡_, refl, sym, ap, subst, _∙_}
-use mathlib.Core.Bool.{Bool, true, false, not, _&&_, _||_, cond}
+use Prim.Native.Nat.{ℕ, suc, _+_, _-_, _≤_}
+use mathlib.Core.Path.{_≡_, refl, sym, ap, _∙_}
+use mathlib.Core.Bool.{Bool, true, false, not, _&&_, _||_}
 use mathlib.Core.List.{List}
 use native.Mathlib.Nat.{zero-add}
 use native.Mathlib.Numerals.{add-one}
 use native.Mathlib.Omega.{arith}
 use lib.IntN.{ℤ}
-use lib.ListN.{length, getD, replicate}
-use Rattle.rules.specs.Bounded.{before, bit, count}
+use lib.ListN.{replicate}
 use Rattle.rules.specs.Recorder.{settingsGood}
 use Rattle.rules.specs.Halves.{known, halfAt, halvesOf}
-use Rattle.rules.specs.Events.{inEvent, starts}
-use Rattle.rules.specs.Site.{cells, inAny, isHealthy, isDisturbed, isUnknown, isPlaced, isUnplaced, sagCell, isStray, sagShortfalls, cellsFrom, empty, grown}
+use Rattle.rules.specs.Events.{starts}
+use Rattle.rules.specs.Site.{cells, inAny, isHealthy, isDisturbed, isUnknown, empty, grown}
 use Rattle.rules.specs.Refusals.{recordingCheck}
 use Rattle.rules.proofs.Bounded.{count-le}
 use Rattle.rules.proofs.Longest.{in-past, half-past}
@@ -20,21 +19,18 @@ use Rattle.rules.proofs.Ranges.{Good, good}
 use Rattle.rules.proofs.Samples.{Accepts, accepts}
 use Rattle.rules.specs.declared.Settings.{Settings}
 use Rattle.rules.specs.declared.Half.{Half}
-use Rattle.rules.specs.declared.Half.the-variants.{Unknown, Known}
-use Rattle.rules.specs.declared.Kind.{Kind}
 use Rattle.rules.specs.declared.Kind.the-variants.{Sag, Interruption, Swell}
 use Rattle.rules.specs.declared.Table.{Table}
 use Rattle.rules.specs.declared.Taken.the-variants.{Accepted}
 use Rattle.sags.specs.declared.kinds.Thresholds.{Thresholds}
 use Rattle.sags.specs.declared.kinds.Level.{Level}
-use Rattle.sags.specs.declared.kinds.Open.{Open}
 use Rattle.sags.specs.declared.site.Track.{Track}
 use Rattle.sags.specs.declared.site.Classes.{Classes}
 use Rattle.sags.specs.declared.site.Starts.{Starts}
 use Rattle.sags.specs.declared.site.Landed.{Landed}
 use Rattle.sags.specs.declared.site.Survey.{Survey}
-use Rattle.sags.specs.Kinds.{thresholdsOf, levelOf, closed, opens, Low, Light}
-use Rattle.sags.specs.Sites.{trackedBy, classedBy, startedBy, landedBy, cellsBy, Placeable, Landable, Surveying, trackAt, coveredAt, classesAt, startsAt, landed, landedAt, cellsAt, surveyAt, resting, startSurvey}
+use Rattle.sags.specs.Kinds.{levelOf, opens, Low, Light}
+use Rattle.sags.specs.Sites.{trackedBy, classedBy, startedBy, landedBy, cellsBy, Landable, Surveying, trackAt, coveredAt, classesAt, startsAt, landed, landedAt, cellsAt, surveyAt, resting, startSurvey}
 use Rattle.sags.proofs.Machine.{known-is, inside-is, opens-closed}
 use Rattle.sags.proofs.Going.{Going}
 use Rattle.sags.proofs.Limits.{opens-light, level-light, level-at-low, extreme-low}

@@ -1,36 +1,30 @@
 -- The survey of a recording says what the rules count: half-cycle by half-cycle, with what an event adds told when it ends.
 -- Assumes nothing.
-use Prim.Native.Nat.{ℕ, zero, suc, _+_, _-_, _*_, _≤_, _<_}
-use mathlib.Core.Path.{_≡_, refl, sym, ap, subst, _∙_}
+use Prim.Native.Nat.{ℕ, zero, suc, _+_, _-_, _≤_}
+use mathlib.Core.Path.{_≡_, refl, ap, _∙_}
 use mathlib.Core.Bool.{Bool, true, false, not, _&&_, _||_, cond, false≢true}
 use mathlib.Core.Logic.{⊎-elim}
-use mathlib.Core.List.{List, [], _∷_}
-use native.Mathlib.Nat.{add-zero}
-use native.Mathlib.Numerals.{add-one}
 use native.Mathlib.Omega.{arith}
 use borrow.Author.Tests.{le-ltb, lt-ltb, not-true}
-use lib.IntN.{ℤ}
-use lib.Dec.{ltb, leb, eqb}
+use lib.Dec.{ltb}
 use Rattle.rules.specs.Bounded.{before, bit, count, sum, all}
-use Rattle.rules.specs.Halves.{known, halfAt, halvesOf}
-use Rattle.rules.specs.Events.{inEvent, starts, endOf, startSeen, endSeen, shortsOf, three}
-use Rattle.rules.specs.Site.{cells, cellAt, inAny, isHealthy, isDisturbed, isUnknown, sagCell, isContained}
-use Rattle.rules.proofs.Booleans.{cases, both, not-both}
+use Rattle.rules.specs.Halves.{known}
+use Rattle.rules.specs.Events.{inEvent, starts, endOf, three}
+use Rattle.rules.specs.Site.{inAny, isHealthy, isDisturbed, isUnknown}
+use Rattle.rules.proofs.Booleans.{cases, both}
 use Rattle.rules.proofs.Bounded.{all-true}
-use Rattle.rules.proofs.Runs.{in-next}
-use Rattle.rules.proofs.Longest.{in-past}
 use Rattle.rules.proofs.Stray.{contained-each}
 use Rattle.rules.specs.declared.Settings.{Settings}
 use Rattle.rules.specs.declared.Half.{Half}
-use Rattle.rules.specs.declared.Half.the-variants.{Unknown, Known}
+use Rattle.rules.specs.declared.Half.the-variants.{Unknown}
 use Rattle.rules.specs.declared.Kind.{Kind}
 use Rattle.rules.specs.declared.Kind.the-variants.{Sag, Interruption, Swell}
 use Rattle.sags.specs.declared.kinds.Open.{Open}
 use Rattle.sags.specs.declared.site.Track.{Track}
 use Rattle.sags.specs.declared.site.Landed.{Landed}
-use Rattle.sags.specs.Kinds.{thresholdsOf, marksOf, levelOf, goesBy, closed, opens, lasting, launched}
-use Rattle.sags.specs.Sites.{trackedBy, classedBy, startedBy, landedBy, cellsBy, landed, coveredAt, trackAt, classesAt, startsAt, seenBoth, shortfallFrom, strayFrom, landedAt, cellsAt, resting}
-use Rattle.sags.proofs.Machine.{goes-is, known-is, inside-is, opens-closed, opens-lasts, opens-launches}
+use Rattle.sags.specs.Kinds.{thresholdsOf, levelOf, opens}
+use Rattle.sags.specs.Sites.{trackedBy, classedBy, startedBy, landedBy, landed, coveredAt, trackAt, classesAt, startsAt, seenBoth, shortfallFrom, strayFrom, landedAt}
+use Rattle.sags.proofs.Machine.{goes-here, known-is, inside-is, opens-lasts, opens-launches}
 use Rattle.sags.proofs.Going.{Going, going, ends-here}
 
 same-track : {a b c d e f i j : Bool} {o p : Open} → a ≡ b → o ≡ p → c ≡ d → e ≡ f → i ≡ j
@@ -50,15 +44,12 @@ same-landed : {a b c d e f : ℕ} → a ≡ b → c ≡ d → e ≡ f
 same-landed x y z = rw (x, y, z)
 
 module _ (s : Settings) (h : ℕ → Half) where
-  goes-here : (kind : Kind) (k : ℕ) → goesBy kind (marksOf s kind) (before (inEvent s h kind) k) (levelOf s (h k)) ≡ inEvent s h kind k
-  goes-here kind k = goes-is s (before (inEvent s h kind) k) kind (h k) ∙ sym (in-next s h kind k)
-
   -- ---- what goes on
 
   pub track-next : (k : ℕ) → trackedBy (thresholdsOf s) k (trackAt s h k) (levelOf s (h k)) ≡ trackAt s h (suc k)
   unfolding trackedBy trackAt coveredAt opens
   track-next k =
-      same-track (known-is s (h k)) refl (goes-here Interruption k) (covers (coveredAt s h k) (goes-here Interruption k) (inside-is s h Sag (suc k))) (goes-here Swell k)
+      same-track (known-is s (h k)) refl (goes-here s h Interruption k) (covers (coveredAt s h k) (goes-here s h Interruption k) (inside-is s h Sag (suc k))) (goes-here s h Swell k)
     where
       covers : (c : Bool) {i j x y : Bool} → i ≡ j → x ≡ y → not i || (c && x) ≡ not j || (c && y)
       covers c e f = rw (e, f)

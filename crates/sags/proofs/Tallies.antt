@@ -1,36 +1,29 @@
 -- The counting pass counts the list: the tally before half-cycle k has the events that start before it. Assumes nothing.
-use Prim.Native.Nat.{ℕ, zero, suc, _+_, _*_, _≤_, _<_}
-use mathlib.Core.Path.{_≡_, refl, sym, ap, _∙_}
-use mathlib.Core.Bool.{Bool, true, false, not, _&&_}
+use Prim.Native.Nat.{ℕ, _+_, _*_, _≤_}
+use mathlib.Core.Path.{_≡_, sym}
 use mathlib.Core.List.{List}
 use native.Mathlib.Numerals.{add-one}
 use native.Mathlib.Omega.{arith}
 use lib.ListN.{length}
 use lib.IntN.{ℤ}
-use Rattle.rules.specs.Bounded.{before, bit, count}
+use Rattle.rules.specs.Bounded.{before}
 use Rattle.rules.specs.Halves.{halfAt, halvesOf}
 use Rattle.rules.specs.Events.{inEvent, starts}
 use Rattle.rules.specs.EventList.{eventsOf}
 use Rattle.rules.proofs.Bounded.{count-le}
 use Rattle.rules.proofs.Order.{events-length}
-use Rattle.rules.proofs.Runs.{in-next}
 use Rattle.rules.specs.declared.Settings.{Settings}
 use Rattle.rules.specs.declared.Half.{Half}
-use Rattle.rules.specs.declared.Kind.{Kind}
 use Rattle.rules.specs.declared.Kind.the-variants.{Sag, Interruption, Swell}
 use Rattle.sags.specs.declared.list.Tally.{Tally}
-use Rattle.sags.specs.Kinds.{marksOf, thresholdsOf, levelOf, goesBy}
+use Rattle.sags.specs.Kinds.{thresholdsOf, levelOf}
 use Rattle.sags.specs.Listing.{tallied, tallyOf}
-use Rattle.sags.proofs.Machine.{goes-is}
+use Rattle.sags.proofs.Machine.{goes-here}
 
 module _ (s : Settings) (h : ℕ → Half) where
-  -- a kind's test at half-cycle k, from where it stood before
-  goes-here : (kind : Kind) (k : ℕ) → goesBy kind (marksOf s kind) (before (inEvent s h kind) k) (levelOf s (h k)) ≡ inEvent s h kind k
-  goes-here kind k = goes-is s (before (inEvent s h kind) k) kind (h k) ∙ sym (in-next s h kind k)
-
   pub tally-next : (k : ℕ) → tallied (thresholdsOf s) (tallyOf s h k) (h k) ≡ tallyOf s h (k + 1)
   unfolding tallied tallyOf levelOf starts
-  tally-next k = rw (add-one, goes-here Sag k, goes-here Interruption k, goes-here Swell k) (same (omega arith))
+  tally-next k = rw (add-one, goes-here s h Sag k, goes-here s h Interruption k, goes-here s h Swell k) (same (omega arith))
     where
       same : {x y : ℕ} → x ≡ y
           → _≡_ {A = Tally} (record { sag = inEvent s h Sag k; interruption = inEvent s h Interruption k; swell = inEvent s h Swell k; n = x })

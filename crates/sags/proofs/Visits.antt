@@ -1,16 +1,15 @@
 -- A visit, case by case: what the machine's step tells of half-cycle k, and what is handed back and written. Assumes nothing.
-use Prim.Native.Nat.{ℕ, zero, suc, _+_, _-_, _*_, _≤_, _<_}
-use mathlib.Core.Path.{_≡_, refl, sym, ap, subst, _∙_}
-use mathlib.Core.Bool.{Bool, true, false, not, _&&_, cond, false≢true}
-use mathlib.Core.Logic.{⊎-elim}
+use Prim.Native.Nat.{ℕ, suc, _+_, _*_, _≤_}
+use mathlib.Core.Path.{_≡_, sym, ap, _∙_}
+use mathlib.Core.Bool.{Bool, true, false, not, _&&_}
 use mathlib.Core.List.{List}
 use native.Mathlib.Nat.{add-zero}
 use native.Mathlib.Omega.{arith}
 use borrow.Author.Tests.{not-true}
 use lib.Seq.{sets}
 use lib.IntN.{ℤ}
-use Rattle.rules.specs.Bounded.{before, bit}
-use Rattle.rules.specs.Halves.{known, halfAt, halvesOf}
+use Rattle.rules.specs.Bounded.{before}
+use Rattle.rules.specs.Halves.{known, halfAt}
 use Rattle.rules.specs.Events.{inEvent, starts}
 use Rattle.rules.specs.EventList.{eventFrom, wordsOf}
 use Rattle.rules.proofs.Booleans.{both}
@@ -31,7 +30,7 @@ use Rattle.sags.proofs.Machine.{known-is, inside-is}
 use Rattle.sags.proofs.Going.{going, finished}
 use Rattle.sags.proofs.Limits.{opens-light, level-light, level-at-low, sound}
 
-module _ (s : Settings) (xs : List ℤ) (kind : Kind) (m : Marks) (seen : Bool) (k : ℕ) (p : Pending) (l : Level) (n room : ℕ)
+module _ {s : Settings} {xs : List ℤ} {kind : Kind} {m : Marks} {seen : Bool} {k : ℕ} {p : Pending} {l : Level} {n room : ℕ}
     (v : Visiting s xs kind m seen k p l n room) where
   abbrev h : ℕ → Half
   h = halfAt s xs
@@ -57,7 +56,7 @@ module _ (s : Settings) (xs : List ℤ) (kind : Kind) (m : Marks) (seen : Bool) 
   was-in : p .event .inside ≡ before (inEvent s h kind) k
   was-in = ap (λ (o : Open). o .inside) (v .ready .state) ∙ inside-is s h kind k
 
-  module _ (is : Open) (stepped : is ≡ stepBy kind m seen k (p .event) l) where
+  module _ {is : Open} (stepped : is ≡ stepBy kind m seen k (p .event) l) where
     pub is-next : is ≡ opens s h kind (suc k)
     unfolding opens
     is-next = stepped ∙ rw (v .marks, v .known-before, v .ready .state, v .levels)

@@ -1,17 +1,16 @@
 -- The writing pass writes the list: once every slot that waits has its words, the run holds the events that start before
 -- half-cycle k. A turn keeps this, and in the end no slot waits. Assumes nothing.
-use Prim.Native.Nat.{ℕ, zero, suc, _+_, _-_, _*_, _≤_, _<_}
+use Prim.Native.Nat.{ℕ, suc, _+_, _*_, _≤_, _<_}
 use mathlib.Core.Path.{_≡_, refl, sym, ap, _∙_}
 use mathlib.Core.Bool.{Bool, true, false, not, _&&_, cond, false≢true}
 use mathlib.Core.Logic.{⊎-elim}
 use mathlib.Core.List.{List, [], _∷_, _++_, append-assoc, append-nil}
 use native.Mathlib.Nat.{eq-or-lt-of-le}
-use native.Mathlib.Numerals.{add-one}
 use native.Mathlib.Omega.{arith}
-use lib.ListN.{length, drop, length-append}
+use lib.ListN.{length, length-append}
 use lib.Seq.{sets, length-sets}
 use lib.IntN.{ℤ}
-use Rattle.rules.specs.Bounded.{before, bit, count, join}
+use Rattle.rules.specs.Bounded.{before, bit, join}
 use Rattle.rules.specs.Halves.{known, halfAt, halvesOf}
 use Rattle.rules.specs.Events.{inEvent, starts}
 use Rattle.rules.specs.EventList.{eventFrom, wordsOf, eventAt, eventsAt, eventsOf, flat}
@@ -25,12 +24,11 @@ use Rattle.rules.specs.declared.Kind.{Kind}
 use Rattle.rules.specs.declared.Kind.the-variants.{Sag, Interruption, Swell}
 use Rattle.sags.specs.declared.kinds.Open.{Open}
 use Rattle.sags.specs.declared.list.Pending.{Pending}
-use Rattle.sags.specs.declared.list.Visited.{Visited}
 use Rattle.sags.specs.declared.list.Pass.{Pass}
-use Rattle.sags.specs.Kinds.{opens, launched, levelOf}
-use Rattle.sags.specs.Listing.{Ready, ReadyAll, startPass, visited, closes, turned, turnedOut, over}
+use Rattle.sags.specs.Kinds.{opens}
+use Rattle.sags.specs.Listing.{ReadyAll, startPass, visited, closes, turned, turnedOut, over}
 use Rattle.sags.proofs.Machine.{inside-is, opens-closed, opens-lasts, opens-launches}
-use Rattle.sags.proofs.Slots.{fill, fill-sets, fill-fill, length-fill, put-next}
+use Rattle.sags.proofs.Slots.{fill, fill-sets, fill-fill, put-next}
 
 -- a slot that waits is below n; two slots that wait are not the same
 abbrev pub Slotted : Pending → ℕ → Type 0

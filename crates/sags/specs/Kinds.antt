@@ -1,6 +1,6 @@
 -- The machine of a kind, as the code runs it: over marks and levels. proofs/ ties it to the rules.
 use Prim.Native.Nat.{ℕ, zero, suc, _+_, _-_, _*_, _≤_}
-use mathlib.Core.Bool.{Bool, true, false, not, _&&_, _||_, cond}
+use mathlib.Core.Bool.{Bool, true, false, _&&_, _||_, cond}
 use lib.Dec.{ltb, eqb}
 use Rattle.rules.specs.Bounded.{before}
 use Rattle.rules.specs.Halves.{known, full}

@@ -1,12 +1,12 @@
 -- The two passes of the lister, as the code runs them: over the machine's states. proofs/ ties them to the rules.
-use Prim.Native.Nat.{ℕ, zero, suc, _+_, _-_, _*_, _≤_}
+use Prim.Native.Nat.{ℕ, suc, _+_, _*_, _≤_}
 use mathlib.Core.Path.{_≡_}
-use mathlib.Core.Bool.{Bool, true, false, not, _&&_, _||_, cond}
-use mathlib.Core.List.{List, [], _∷_, _++_}
+use mathlib.Core.Bool.{Bool, true, false, not, _&&_, cond}
+use mathlib.Core.List.{List, _++_}
 use lib.ListN.{length, drop}
 use lib.Seq.{sets}
 use lib.IntN.{ℤ}
-use Rattle.rules.specs.Bounded.{before, bit, count, join}
+use Rattle.rules.specs.Bounded.{before, bit, count}
 use Rattle.rules.specs.Recorder.{settingsGood}
 use Rattle.rules.specs.Halves.{known, halfAt, halvesOf}
 use Rattle.rules.specs.Events.{inEvent, starts, retainedOf, three, sixSums, typeOf}

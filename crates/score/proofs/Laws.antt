@@ -1,46 +1,22 @@
--- Settings told by one conjunction, whole numbers as floats, milliseconds without a product that wraps, and places among borders.
--- Assumes nothing.
+-- Whole numbers as floats, milliseconds without a product that wraps, and places among borders. Assumes nothing.
 use Prim.Native.Nat.{ℕ, suc, _+_, _*_, _/_, _%_, _^_, _≤_, _<_}
 use mathlib.Core.Path.{_≡_, refl, sym, ap, _∙_}
-use mathlib.Core.Bool.{Bool, true, false, not, _&&_, cond}
+use mathlib.Core.Bool.{Bool, true, false, not, cond}
 use mathlib.Core.List.{List, [], _∷_, map}
 use native.Mathlib.Nat.{mul-le-mul, div-lt-iff-lt-mul, mod-lt, div-add-mod', mul-assoc, mul-comm, mul-add-div-right}
 use native.Mathlib.Numerals.{add-one}
 use native.Mathlib.Omega.{arith}
 use borrow.Author.Tests.{leb-true, leb-false, lt-ltb, le-ltb}
-use lib.Dec.{T, leb, ltb, eqb, le→leb, leb·suc-suc, lit≤}
+use lib.Dec.{T, leb, ltb, le→leb, leb·suc-suc, lit≤}
 use lib.IntN.{pos}
 use lib.Ieee.{binary64, inFloat, ofBits, ofInt}
 use lib.ListN.{length, getD, drop, drop-of-length-le}
 use lib.Seq.{drop-cons}
 use Rattle.rules.specs.declared.Settings.{Settings}
-use Rattle.rules.specs.Recorder.{within, nGood, fGood, badSetting, settingsGood}
 use Rattle.rules.specs.Halves.{full, atMost}
 use Rattle.rules.specs.Scores.{curveOf}
 use Rattle.rules.specs.Site.{placeOf, rowBorders, rowOf, columnBorders, columnOf}
 use Rattle.rules.proofs.Ranges.{Good, full-least, full-high}
-
--- ---- settings
-
--- that no test is the first to fail says that all pass
-all-pass : (a b c d e f g : Bool)
-    → a && b && c && d && e && f && g
-    ≡ eqb (cond (not a) 1 (cond (not b) 2 (cond (not c) 3 (cond (not d) 4 (cond (not e) 5 (cond (not f) 6 (cond (not g) 7 0))))))) 0
-all-pass true true true true true true true = refl
-all-pass true true true true true true false = refl
-all-pass true true true true true false g = refl
-all-pass true true true true false f g = refl
-all-pass true true true false e f g = refl
-all-pass true true false d e f g = refl
-all-pass true false c d e f g = refl
-all-pass false b c d e f g = refl
-
-pub settings-is : (s : Settings)
-    → nGood (s .n) && within 1000 50000 (s .r) && fGood (s .f) && within 50 95 (s .sag) && within 1 20 (s .interruption) && within 105 150 (s .swell) && leb (s .hysteresis) 5
-    ≡ settingsGood s
-unfolding settingsGood badSetting
-settings-is s =
-    all-pass (nGood (s .n)) (within 1000 50000 (s .r)) (fGood (s .f)) (within 50 95 (s .sag)) (within 1 20 (s .interruption)) (within 105 150 (s .swell)) (leb (s .hysteresis) 5)
 
 -- ---- floats
 

@@ -17,14 +17,7 @@ ghost use Rattle.rules.specs.Site.{placeOf, rowOf, columnOf, cellAt, cellOf};
 fn settings_good(s: Settings) -> bool
     ensures { λ r. ⌜ r ≡ settingsGood s ⌝ }
 {
-    let even = s.n % 2 == 0;
-    let n = (8 <= s.n) & (s.n <= 512) & even;
-    let r = (1000 <= s.r) & (s.r <= 50000);
-    let f = (s.f == 50) | (s.f == 60);
-    let sag = (50 <= s.sag) & (s.sag <= 95);
-    let interruption = (1 <= s.interruption) & (s.interruption <= 20);
-    let swell = (105 <= s.swell) & (s.swell <= 150);
-    n & r & f & sag & interruption & swell & (s.hysteresis <= 5)
+    halves::first_bad_setting(s) == 0
 }
 
 // N x R x R.

@@ -1,10 +1,16 @@
 -- Each return is the case of the definition that its tests pick; the flags stand for the search. Assumes nothing.
+use mathlib.Core.Path.{_≡_}
+use mathlib.Core.Bool.{not, cond}
 use native.Mathlib.Omega.{arith}
 use borrow.Author.Needs.{needs}
 use borrow.Author.Tests.{eq-eqb, ne-eqb, lt-ltb, le-ltb}
 use denote.Ref.{now}
+use Rattle.rules.specs.Recorder.{firstBad}
 use Rattle.rules.specs.Refusals.{recordingCheck}
+use Rattle.rules.specs.declared.Refusal.the-variants.{Sample}
+use Rattle.rules.specs.declared.Taken.the-variants.{Accepted, Refused}
 use Rattle.rules.proofs.Ranges.{good}
+use Rattle.halves.specs.Windows.{allInRange}
 use Rattle.halves.proofs.Windows.{bad-is}
 use Rattle.halves.proofs.check_recording.Statement.{statement}
 use Rattle.halves.proofs.check_recording.Tie as tie
@@ -46,40 +52,28 @@ all-in-range-requires c κs = search needs
 first-bad-requires : tie.Need-first-bad-requires
 first-bad-requires c κs = search needs
 
-returns-5 : tie.Need-returns-5
+-- past the tests of the length only the samples are left
+past : (c : tie.Else4)
+    → let a = c .before .before .before .before .before .args in
+    recordingCheck (a .s) (now (a .samples)) ≡ cond (not (allInRange (now (a .samples)))) (Refused (Sample (firstBad (now (a .samples))))) Accepted
 unfolding recordingCheck
-returns-5 c =
-    let d = c .before .before .before in
-    let e = d .before .before in
-    let xs = now (e .before .before .before .args .samples) in
+past c =
+    let e = c .before .before in
     rw (
       eq-eqb _ _ (e .before .before .if1 .left),
       le-ltb _ _ (e .before .if2 .left),
       eq-eqb _ _ (e .if3 .left),
-      ← d .before .count-halves .ensures,
-      le-ltb _ _ (d .if4 .left),
-      bad-is xs,
-      ← c .before .before .all-in-range .ensures,
-      c .before .if5 .taken,
-      c .first-bad .ensures,
+      ← c .before .count-halves .ensures,
+      le-ltb _ _ (c .if4 .left),
+      bad-is (now (e .before .before .before .args .samples)),
     )
 
+returns-5 : tie.Need-returns-5
+returns-5 c =
+    rw (past (c .before .before .before), ← c .before .before .all-in-range .ensures, c .before .if5 .taken, c .first-bad .ensures)
+
 returns-6 : tie.Need-returns-6
-unfolding recordingCheck
-returns-6 c =
-    let d = c .before .before in
-    let e = d .before .before in
-    let xs = now (e .before .before .before .args .samples) in
-    rw (
-      eq-eqb _ _ (e .before .before .if1 .left),
-      le-ltb _ _ (e .before .if2 .left),
-      eq-eqb _ _ (e .if3 .left),
-      ← d .before .count-halves .ensures,
-      le-ltb _ _ (d .if4 .left),
-      bad-is xs,
-      ← c .before .all-in-range .ensures,
-      c .if5 .left,
-    )
+returns-6 c = rw (past (c .before .before), ← c .before .all-in-range .ensures, c .if5 .left)
 
 pub check-recording-spec : {M : Type 1} → statement M
 check-recording-spec =

@@ -1,41 +1,32 @@
+-- Each arm is the case of the definition that its kind picks, without a branch. Assumes nothing.
 use Rattle.sags.specs.Kinds.{goesBy}
 use borrow.Author.Needs.{needs}
 use Rattle.sags.proofs.kinds.goes_on.Statement.{statement}
 use Rattle.sags.proofs.kinds.goes_on.Tie as tie
-use Rattle.sags.proofs.kinds.goes_on.Reads as reads
-use Rattle.sags.proofs.kinds.goes_on.Lts as lts
 
--- src/kinds.rt:46:15
 mul-low : tie.Need-mul-low
 mul-low c = search needs
 
--- src/kinds.rt:47:16
 mul-high : tie.Need-mul-high
 mul-high c = search needs
 
--- src/kinds.rt:49:34
 enum-told : tie.Need-enum-told
 enum-told c = search needs
 
--- src/kinds.rt:50:43
 enum-told-2 : tie.Need-enum-told-2
 enum-told-2 c = search needs
 
--- src/kinds.rt:51:36
 enum-told-3 : tie.Need-enum-told-3
 enum-told-3 c = search needs
 
--- src/kinds.rt:42:1
 returns : tie.Need-returns
 unfolding goesBy
 returns c = rw (c .before .before .before .enum-told .given .1)
 
--- src/kinds.rt:42:1
 returns-2 : tie.Need-returns-2
 unfolding goesBy
 returns-2 c = rw (c .before .before .before .enum-told2 .given .1)
 
--- src/kinds.rt:42:1
 returns-3 : tie.Need-returns-3
 unfolding goesBy
 returns-3 c = rw (c .before .before .before .enum-told3 .given .1)

@@ -1,20 +1,16 @@
+-- With p at most 200 and N x R x R at most 512 x 50,000 x 50,000 the products fit. Assumes nothing.
 use native.Mathlib.Omega.{arith}
 use Rattle.rules.proofs.Ranges.{square-high, share-high}
 use borrow.Author.Needs.{needs}
 use Rattle.sags.proofs.kinds.mark.Statement.{statement}
 use Rattle.sags.proofs.kinds.mark.Tie as tie
-use Rattle.sags.proofs.kinds.mark.Reads as reads
-use Rattle.sags.proofs.kinds.mark.Lts as lts
 
--- src/kinds.rt:60:5
 mul-result : tie.Need-mul-result
 mul-result c = omega (arith, square-high _ (c .pre .1))
 
--- src/kinds.rt:60:5
 mul-result-2 : tie.Need-mul-result-2
 mul-result-2 c = omega (arith, share-high _ _ (c .pre .0) (c .pre .1))
 
--- src/kinds.rt:56:1
 returns : tie.Need-returns
 returns c = search needs
 

@@ -1,44 +1,32 @@
+-- Each arm is the case of the definition that its kind picks. Assumes nothing.
 use borrow.Author.Needs.{needs}
 use Rattle.sags.proofs.kinds.worse_of.Statement.{statement}
 use Rattle.sags.proofs.kinds.worse_of.Tie as tie
-use Rattle.sags.proofs.kinds.worse_of.Reads as reads
-use Rattle.sags.proofs.kinds.worse_of.Lts as lts
-use Rattle.sags.proofs.kinds.max.Reads as max-reads
-use Rattle.sags.proofs.kinds.min.Reads as min-reads
 
--- src/kinds.rt:148:22
 enum-told : tie.Need-enum-told
 enum-told c = search needs
 
--- src/kinds.rt:148:22
 min-requires : tie.Need-min-requires
 min-requires c κs = search needs
 
--- src/kinds.rt:149:31
 enum-told-2 : tie.Need-enum-told-2
 enum-told-2 c = search needs
 
--- src/kinds.rt:149:31
 min-requires-2 : tie.Need-min-requires-2
 min-requires-2 c κs = search needs
 
--- src/kinds.rt:150:24
 enum-told-3 : tie.Need-enum-told-3
 enum-told-3 c = search needs
 
--- src/kinds.rt:150:24
 max-requires : tie.Need-max-requires
 max-requires c κs = search needs
 
--- src/kinds.rt:144:1
 returns : tie.Need-returns
 returns c = rw (c .before .enum-told .given .1, c .min .ensures)
 
--- src/kinds.rt:144:1
 returns-2 : tie.Need-returns-2
 returns-2 c = rw (c .before .enum-told2 .given .1, c .min2 .ensures)
 
--- src/kinds.rt:144:1
 returns-3 : tie.Need-returns-3
 returns-3 c = rw (c .before .enum-told3 .given .1, c .max .ensures)
 

@@ -1,19 +1,18 @@
-use Prim.Native.Nat.{ℕ, _≤_, _-_}
-use mathlib.Core.Path.{_≡_, refl, sym, ap, _∙_}
+-- The invariant: before half-cycle k the tally is that of the rules, which at half-cycle H counts the list. The measure is what is left of
+-- the half-cycles. Assumes nothing.
+use Prim.Native.Nat.{_≤_, _-_}
+use mathlib.Core.Path.{_≡_, refl, ap, _∙_}
 use native.Mathlib.Omega.{arith}
 use denote.Ref.{now}
 use Rattle.rules.specs.Halves.{halfAt, halvesOf}
 use Rattle.rules.proofs.Ranges.{good}
-use Rattle.rules.proofs.Samples.{Accepts, accepts}
+use Rattle.rules.proofs.Samples.{accepts}
+use Rattle.sags.specs.declared.list.Tally.{Tally}
 use Rattle.sags.specs.Listing.{tallyOf}
 use Rattle.sags.proofs.Limits.{marked, few-half}
 use Rattle.sags.proofs.Tallies.{tally-next, tally-few, tally-all}
 use Rattle.sags.proofs.list.count_events.Statement.{statement}
 use Rattle.sags.proofs.list.count_events.Tie as tie
-use Rattle.sags.proofs.list.count_events.Reads as reads
-use Rattle.sags.proofs.list.count_events.Lts as lts
-use Rattle.halves.proofs.half_at.Reads as half-at-reads
-use Rattle.sags.proofs.list.count_turn.Reads as count-turn-reads
 
 abbrev Inv-loop : tie.InvT-loop
 Inv-loop s m halves samples t₀ k₀ t k = (k ≤ halves) × (t ≡ tallyOf s (halfAt s samples) k)
@@ -21,16 +20,13 @@ Inv-loop s m halves samples t₀ k₀ t k = (k ≤ halves) × (t ≡ tallyOf s (
 abbrev μ-loop : tie.MeasureT-loop
 μ-loop s m halves samples t₀ k₀ t k = halves - k
 
--- src/list.rt:114:5
 loop-holds : tie.Need-loop-holds Inv-loop μ-loop
 unfolding tallyOf
 loop-holds c = (omega arith, refl)
 
--- src/list.rt:115:30
 half-at-requires : tie.Need-half-at-requires Inv-loop μ-loop
 half-at-requires c κs = (c .before .before .pre .0, c .before .before .pre .1, c .before .before .pre .2)
 
--- src/list.rt:115:9
 count-turn-requires : tie.Need-count-turn-requires Inv-loop μ-loop
 count-turn-requires c κs =
     let s = c .before .before .before in
@@ -42,15 +38,12 @@ count-turn-requires c κs =
           (omega (arith, tally-few (s .args .s) (halfAt (s .args .s) (now (s .args .samples))) (c .before .before .loop .k), ok .few, s .pre .2)),
     )
 
--- src/list.rt:116:9
 add-k : tie.Need-add-k Inv-loop μ-loop
 add-k c = omega arith
 
--- src/list.rt:114:5
 loop-less : tie.Need-loop-less Inv-loop μ-loop
 loop-less c = omega arith
 
--- src/list.rt:114:5
 loop-again : tie.Need-loop-again Inv-loop μ-loop
 loop-again c =
     let s = c .before .before .before .before in
@@ -60,12 +53,11 @@ loop-again c =
           ∙ rw (c .before .half-at .ensures, s .pre .3, l .inv .1) (tally-next (s .args .s) (halfAt (s .args .s) (now (s .args .samples))) (l .k)),
     )
 
--- src/list.rt:103:1
 returns : tie.Need-returns Inv-loop μ-loop
 returns c =
     let s = c .before .before in
     let e : c .before .loop .k ≡ halvesOf (s .args .s) (now (s .args .samples)) = omega (arith, s .pre .2) in
-    rw (c .before .loop .inv .1) (tally-all (s .args .s) (now (s .args .samples)) (c .before .loop .k) e)
+    ap (λ (t : Tally). t .n) (c .before .loop .inv .1) ∙ tally-all (s .args .s) (now (s .args .samples)) (c .before .loop .k) e
 
 pub count-events-spec : {M : Type 1} → statement M
 count-events-spec =

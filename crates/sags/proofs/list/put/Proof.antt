@@ -1,109 +1,83 @@
+-- Eight stores one behind the other are the words stored as a run. Assumes nothing.
 use native.Mathlib.Omega.{arith}
 use native.Mathlib.Numerals.{add-one, add-two, add-three, add-four, add-five, add-six, add-seven}
 use lib.ListN.{length-set}
 use borrow.Author.Needs.{needs}
 use Rattle.sags.proofs.list.put.Statement.{statement}
 use Rattle.sags.proofs.list.put.Tie as tie
-use Rattle.sags.proofs.list.put.Reads as reads
-use Rattle.sags.proofs.list.put.Lts as lts
 
--- src/list.rt:195:5
 mul-out : tie.Need-mul-out
 mul-out c = search needs
 
--- src/list.rt:195:5
 slice-write-out : tie.Need-slice-write-out
 slice-write-out c = search needs
 
--- src/list.rt:196:9
 add-out : tie.Need-add-out
 add-out c = search needs
 
--- src/list.rt:196:5
 mul-out-2 : tie.Need-mul-out-2
 mul-out-2 c = search needs
 
--- src/list.rt:196:5
 slice-write-out-2 : tie.Need-slice-write-out-2
 slice-write-out-2 c = simp length-set (omega arith)
 
--- src/list.rt:197:9
 add-out-2 : tie.Need-add-out-2
 add-out-2 c = search needs
 
--- src/list.rt:197:5
 mul-out-3 : tie.Need-mul-out-3
 mul-out-3 c = search needs
 
--- src/list.rt:197:5
 slice-write-out-3 : tie.Need-slice-write-out-3
 slice-write-out-3 c = simp length-set (omega arith)
 
--- src/list.rt:198:9
 add-out-3 : tie.Need-add-out-3
 add-out-3 c = search needs
 
--- src/list.rt:198:5
 mul-out-4 : tie.Need-mul-out-4
 mul-out-4 c = search needs
 
--- src/list.rt:198:5
 slice-write-out-4 : tie.Need-slice-write-out-4
 slice-write-out-4 c = simp length-set (omega arith)
 
--- src/list.rt:199:9
 add-out-4 : tie.Need-add-out-4
 add-out-4 c = search needs
 
--- src/list.rt:199:5
 mul-out-5 : tie.Need-mul-out-5
 mul-out-5 c = search needs
 
--- src/list.rt:199:5
 slice-write-out-5 : tie.Need-slice-write-out-5
 slice-write-out-5 c = simp length-set (omega arith)
 
--- src/list.rt:200:9
 add-out-5 : tie.Need-add-out-5
 add-out-5 c = search needs
 
--- src/list.rt:200:5
 mul-out-6 : tie.Need-mul-out-6
 mul-out-6 c = search needs
 
--- src/list.rt:200:5
 slice-write-out-6 : tie.Need-slice-write-out-6
 slice-write-out-6 c = simp length-set (omega arith)
 
--- src/list.rt:201:9
 add-out-6 : tie.Need-add-out-6
 add-out-6 c = search needs
 
--- src/list.rt:201:5
 mul-out-7 : tie.Need-mul-out-7
 mul-out-7 c = search needs
 
--- src/list.rt:201:5
 slice-write-out-7 : tie.Need-slice-write-out-7
 slice-write-out-7 c = simp length-set (omega arith)
 
--- src/list.rt:202:9
 add-out-7 : tie.Need-add-out-7
 add-out-7 c = search needs
 
--- src/list.rt:202:5
 mul-out-8 : tie.Need-mul-out-8
 mul-out-8 c = search needs
 
--- src/list.rt:202:5
 slice-write-out-8 : tie.Need-slice-write-out-8
 slice-write-out-8 c = simp length-set (omega arith)
 
--- src/list.rt:191:1
 same-length : tie.Need-same-length
 same-length c = search needs
 
--- src/list.rt:191:1
 returns : tie.Need-returns
 returns c = rw (add-one, add-two, add-three, add-four, add-five, add-six, add-seven)
 

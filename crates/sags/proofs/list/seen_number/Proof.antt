@@ -1,21 +1,16 @@
+-- Each return is one of the four cases. Assumes nothing.
 use Rattle.sags.proofs.list.seen_number.Statement.{statement}
 use Rattle.sags.proofs.list.seen_number.Tie as tie
-use Rattle.sags.proofs.list.seen_number.Reads as reads
-use Rattle.sags.proofs.list.seen_number.Lts as lts
 
--- src/list.rt:138:13
 returns : tie.Need-returns
 returns c = rw (c .before .if1 .taken, c .if2 .taken)
 
--- src/list.rt:140:9
 returns-2 : tie.Need-returns-2
 returns-2 c = rw (c .before .if1 .taken, c .if2 .left)
 
--- src/list.rt:143:9
 returns-3 : tie.Need-returns-3
 returns-3 c = rw (c .before .if1 .left, c .if3 .taken)
 
--- src/list.rt:133:1
 returns-4 : tie.Need-returns-4
 returns-4 c = rw (c .before .if1 .left, c .if3 .left)
 

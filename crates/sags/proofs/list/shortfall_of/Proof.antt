@@ -1,38 +1,29 @@
+-- A sag has the sum of the three channels, and each other arm is the case of its kind. Assumes nothing.
 use borrow.Author.Needs.{needs}
 use Rattle.sags.proofs.list.shortfall_of.Statement.{statement}
 use Rattle.sags.proofs.list.shortfall_of.Tie as tie
-use Rattle.sags.proofs.list.shortfall_of.Reads as reads
-use Rattle.sags.proofs.list.shortfall_of.Lts as lts
 
--- src/list.rt:154:22
 enum-told : tie.Need-enum-told
 enum-told c = search needs
 
--- src/list.rt:154:22
 add-result : tie.Need-add-result
 add-result c = search needs
 
--- src/list.rt:154:22
 add-result-2 : tie.Need-add-result-2
 add-result-2 c = search needs
 
--- src/list.rt:155:31
 enum-told-2 : tie.Need-enum-told-2
 enum-told-2 c = search needs
 
--- src/list.rt:156:24
 enum-told-3 : tie.Need-enum-told-3
 enum-told-3 c = search needs
 
--- src/list.rt:149:1
 returns : tie.Need-returns
 returns c = rw (c .before .before .enum-told .given .1)
 
--- src/list.rt:149:1
 returns-2 : tie.Need-returns-2
 returns-2 c = search needs
 
--- src/list.rt:149:1
 returns-3 : tie.Need-returns-3
 returns-3 c = search needs
 

@@ -1,23 +1,19 @@
-use Rattle.rules.specs.declared.Kind.the-variants.{Sag, Interruption}
-use mathlib.Core.Path.{_≡_, sym, ap, _∙_}
-use lib.ListN.{length}
-use Prim.Native.Nat.{ℕ}
+-- The level is computed once, and each visit asks what the pass holds of its kind; the three visits make the turn. Assumes nothing.
+use Prim.Native.Nat.{_+_, _≤_}
+use mathlib.Core.Path.{_≡_, refl, ap, _∙_}
+use native.Mathlib.Omega.{arith}
+use borrow.Author.Needs.{needs}
 use denote.Ref.{now}
+use lib.ListN.{length}
+use Rattle.rules.specs.Halves.{halfAt}
 use Rattle.rules.proofs.Ranges.{good}
 use Rattle.rules.proofs.Samples.{accepts}
-use Rattle.rules.specs.Halves.{halvesOf}
-use Rattle.sags.specs.Listing.{visited}
-use Rattle.sags.specs.declared.list.Visited.{Visited}
+use Rattle.sags.specs.declared.kinds.Thresholds.{Thresholds}
+use Rattle.sags.specs.Kinds.{levelOf}
 use Rattle.sags.proofs.Limits.{marked, few-half}
-use Rattle.sags.proofs.Turns.{Turning, level-is, visits-sag, visits-interruption, visits-swell, turn-made, turn-out}
-use borrow.Author.Needs.{needs}
+use Rattle.sags.proofs.Turns.{Turning, level-is, visited-few, visits, turn-made, turn-out}
 use Rattle.sags.proofs.list.turn.Statement.{statement}
 use Rattle.sags.proofs.list.turn.Tie as tie
-use Rattle.sags.proofs.list.turn.Reads as reads
-use Rattle.sags.proofs.list.turn.Lts as lts
-use Rattle.halves.proofs.half_at.Reads as half-at-reads
-use Rattle.sags.proofs.kinds.level_at.Reads as level-at-reads
-use Rattle.sags.proofs.list.visit.Reads as visit-reads
 
 asked : (c : tie.Start) → Turning (c .args .s) (now (c .args .samples)) (c .args .m) (c .args .k) (c .args .p) (length (now (c .args .out)))
 asked c =
@@ -29,21 +25,28 @@ asked c =
       ready = c .pre .5;
     }
 
-second-n : (c : tie.After-visit2)
-    → let s = c .before .before .before .before .before .before .before .before .before .before in
-    c .visit2 .result .n
-    ≡ visited (s .args .s) (now (s .args .samples)) Interruption (s .args .k) (s .args .p .interruption) (visited (s .args .s) (now (s .args .samples)) Sag (s .args .k) (s .args .p .sag) (s .args .p .n) .n) .n
-second-n c =
-    let s = c .before .before .before .before .before .before .before .before .before .before in
-    ap (λ (v : Visited). v .n)
-    (c .visit2 .ensures .0
-    ∙ ap (λ (v : Visited). visited (s .args .s) (now (s .args .samples)) Interruption (s .args .k) (s .args .p .interruption) (v .n)) (c .before .before .before .before .visit .ensures .0))
+-- the level is that of the half-cycle
+level : (c : tie.After-level-at)
+    → let a = c .before .before .before .before .args in c .level-at .result ≡ levelOf (a .s) (halfAt (a .s) (now (a .samples)) (a .k))
+level c = level-is _ _ _ _ _ (c .before .before .before .before .pre .3) (c .before .half-at .ensures) (c .level-at .ensures)
 
--- src/list.rt:242:42
+-- where each visit stands
+abbrev start : tie.After-visit → tie.Start
+start c = c .before .before .before .before .before .before
+
+abbrev first : tie.After-visit2 → tie.After-visit
+first c = c .before .before .before .before
+
+-- and that it gives out one slot at the most
+few : (c : tie.After-visit) → c .visit .result .n ≤ start c .args .p .n + 1
+few c = visited-few _ _ _ _ _ _ _ (c .visit .ensures .0)
+
+few-2 : (c : tie.After-visit2) → c .visit2 .result .n ≤ start (first c) .args .p .n + 2
+few-2 c = omega (arith, visited-few _ _ _ _ _ _ _ (c .visit2 .ensures .0), few (first c))
+
 half-at-requires : tie.Need-half-at-requires
 half-at-requires c κs = search needs
 
--- src/list.rt:242:9
 level-at-requires : tie.Need-level-at-requires
 level-at-requires c κs =
     let s = c .before .before .before in
@@ -52,31 +55,38 @@ level-at-requires c κs =
       rw (c .half-at .ensures) (few-half _ _ g (accepts _ _ (s .pre .1)) _),
     )
 
--- src/list.rt:244:9
 visit-requires : tie.Need-visit-requires
-visit-requires c κs = visits-sag _ _ _ _ _ _ (asked (c .before .before .before .before .before)) _ (level-is _ _ _ _ _ (c .before .before .before .before .before .pre .3) (c .before .before .half-at .ensures) (c .before .level-at .ensures))
+visit-requires c κs =
+    let s = c .before .before .before .before .before in
+    visits (asked s) (level (c .before)) (ap (λ (m : Thresholds). m .sag) (s .pre .3)) (s .pre .5 .sag) (omega arith) refl
 
--- src/list.rt:245:9
 visit-requires-2 : tie.Need-visit-requires-2
 visit-requires-2 c κs =
-    visits-interruption _ _ _ _ _ _ (asked (c .before .before .before .before .before .before .before .before .before)) _ (level-is _ _ _ _ _ (c .before .before .before .before .before .before .before .before .before .pre .3) (c .before .before .before .before .before .before .half-at .ensures) (c .before .before .before .before .before .level-at .ensures)) _ _ (ap (λ (v : Visited). v .n) (c .before .before .before .visit .ensures .0)) (c .before .before .before .visit .kept .1 .1 .1 .1 .1 .1 .1 .1 .1 .0)
+    let a = c .before .before .before in
+    let s = start a in
+    visits (asked s) (level (a .before .before)) (ap (λ (m : Thresholds). m .interruption) (s .pre .3)) (s .pre .5 .interruption)
+    (omega (arith, few a)) (a .visit .kept .1 .1 .1 .1 .1 .1 .1 .1 .1 .0)
 
--- src/list.rt:246:9
 visit-requires-3 : tie.Need-visit-requires-3
 visit-requires-3 c κs =
-    visits-swell _ _ _ _ _ _ (asked (c .before .before .before .before .before .before .before .before .before .before .before .before .before)) _ (level-is _ _ _ _ _ (c .before .before .before .before .before .before .before .before .before .before .before .before .before .pre .3) (c .before .before .before .before .before .before .before .before .before .before .half-at .ensures) (c .before .before .before .before .before .before .before .before .before .level-at .ensures)) _ _ (second-n (c .before .before .before)) (c .before .before .before .visit2 .kept .1 .1 .1 .1 .1 .1 .1 .1 .1 .0 ∙ c .before .before .before .before .before .before .before .visit .kept .1 .1 .1 .1 .1 .1 .1 .1 .1 .0)
+    let b = c .before .before .before in
+    let a = first b in
+    let s = start a in
+    visits (asked s) (level (a .before .before)) (ap (λ (m : Thresholds). m .swell) (s .pre .3)) (s .pre .5 .swell) (few-2 b)
+    (b .visit2 .kept .1 .1 .1 .1 .1 .1 .1 .1 .1 .0 ∙ a .visit .kept .1 .1 .1 .1 .1 .1 .1 .1 .1 .0)
 
--- src/list.rt:236:1
 same-length : tie.Need-same-length
 same-length c = search needs
 
--- src/list.rt:236:1
 returns : tie.Need-returns
 returns c =
-    let s = c .before .before .before .before .before .before .before .before .before .before .before .before .before .before .before .before .before .before .before in
-    let l = (level-is _ _ _ _ _ (c .before .before .before .before .before .before .before .before .before .before .before .before .before .before .before .before .before .before .before .pre .3) (c .before .before .before .before .before .before .before .before .before .before .before .before .before .before .before .before .half-at .ensures) (c .before .before .before .before .before .before .before .before .before .before .before .before .before .before .before .level-at .ensures)) in (
-      turn-made _ _ _ _ _ _ (asked s) _ l _ _ _ (c .before .before .before .before .before .before .before .before .before .before .before .before .before .visit .ensures .0) (c .before .before .before .before .before .before .before .before .before .visit2 .ensures .0) (c .before .before .before .before .before .visit3 .ensures .0),
-      turn-out _ _ _ _ _ _ (asked s) _ l _ _ _ _ (c .before .before .before .before .before .before .before .before .before .before .before .before .before .visit .ensures .1) (c .before .before .before .before .before .before .before .before .before .visit2 .ensures .1) (c .before .before .before .before .before .visit3 .ensures .1),
+    let v = c .before .before .before .before .before in
+    let b = v .before .before .before .before in
+    let a = first b in
+    let t = asked (start a) in
+    let l = level (a .before .before) in (
+      turn-made t l (a .visit .ensures .0) (b .visit2 .ensures .0) (v .visit3 .ensures .0),
+      turn-out t l _ _ _ _ (a .visit .ensures .1) (b .visit2 .ensures .1) (v .visit3 .ensures .1),
     )
 
 pub turn-spec : {M : Type 1} → statement M

@@ -1,50 +1,75 @@
+-- The step tells whether an event ends, starts or neither; each return is the law of its case. Assumes nothing.
+use Prim.Native.Nat.{_+_, _*_, _≤_}
+use mathlib.Core.Path.{_≡_, _∙_}
+use mathlib.Core.Bool.{true}
 use native.Mathlib.Omega.{arith}
-use mathlib.Core.Path.{_∙_}
+use denote.Ref.{now}
+use lib.ListN.{length}
 use Rattle.sags.proofs.Visits.{step-ready, finish-ready, was-inside, ended, ended-out, started, started-out, stayed, stayed-out}
 use borrow.Author.Needs.{needs}
 use Rattle.sags.proofs.list.visit.Statement.{statement}
 use Rattle.sags.proofs.list.visit.Tie as tie
-use Rattle.sags.proofs.list.visit.Reads as reads
-use Rattle.sags.proofs.list.visit.Lts as lts
-use Rattle.sags.proofs.kinds.step.Reads as step-reads
-use Rattle.sags.proofs.list.finish.Reads as finish-reads
-use Rattle.sags.proofs.list.put.Reads as put-reads
 
--- src/list.rt:214:9
+abbrev start : tie.After-step → tie.Start
+start c = c .before .before .before
+
+-- where an event ends
+abbrev stepped : tie.Then1 → tie.After-step
+stepped c = c .before .before .before
+
+-- it was going on, and its slot lies within the run
+was : (c : tie.Then1) → start (stepped c) .args .p .event .inside ≡ true
+was c = was-inside (start (stepped c) .pre) (stepped c .step .ensures) (c .if1 .taken)
+
+slot : (c : tie.Then1) → let a = start (stepped c) .args in 8 * a .p .slot + 8 ≤ length (now (a .out))
+slot c = start (stepped c) .pre .ready .slot (was c)
+
 step-requires : tie.Need-step-requires
-step-requires c κs = step-ready _ _ _ _ _ _ _ _ _ _ (c .before .before .pre)
+step-requires c κs = step-ready (c .before .before .pre)
 
--- src/list.rt:216:13
 finish-requires : tie.Need-finish-requires
-finish-requires c κs = (c .before .before .before .before .before .before .pre .good-settings, c .before .before .before .before .before .before .pre .accepted, finish-ready _ _ _ _ _ _ _ _ _ _ (c .before .before .before .before .before .before .pre) (was-inside _ _ _ _ _ _ _ _ _ _ (c .before .before .before .before .before .before .pre) _ (c .before .before .before .step .ensures) (c .if1 .taken)))
+finish-requires c κs =
+    let v = start (stepped c) .pre in
+    (v .good-settings, v .accepted, finish-ready v (was c))
 
--- src/list.rt:217:19
 mul-put : tie.Need-mul-put
-mul-put c = omega (arith, c .before .before .before .before .before .before .before .before .good, c .before .before .before .before .before .before .before .before .pre .ready .slot (was-inside _ _ _ _ _ _ _ _ _ _ (c .before .before .before .before .before .before .before .before .pre) _ (c .before .before .before .before .before .step .ensures) (c .before .before .if1 .taken)))
+mul-put c = let ends = c .before .before in omega (arith, start (stepped ends) .good, slot ends)
 
--- src/list.rt:217:9
 put-requires : tie.Need-put-requires
-put-requires c κs = c .before .before .before .before .before .before .before .before .pre .ready .slot (was-inside _ _ _ _ _ _ _ _ _ _ (c .before .before .before .before .before .before .before .before .pre) _ (c .before .before .before .before .before .step .ensures) (c .before .before .if1 .taken))
+put-requires c κs = slot (c .before .before)
 
--- src/list.rt:218:9
 same-length : tie.Need-same-length
 same-length c = search needs
 
--- src/list.rt:218:9
 returns : tie.Need-returns
-returns c = (ended _ _ _ _ _ _ _ _ _ _ (c .before .before .before .before .before .before .before .before .before .before .before .pre) _ (c .before .before .before .before .before .before .before .before .step .ensures) (c .before .before .before .before .before .if1 .taken), c .before .before .put .ensures ∙ ended-out _ _ _ _ _ _ _ _ _ _ (c .before .before .before .before .before .before .before .before .before .before .before .pre) _ (c .before .before .before .before .before .before .before .before .step .ensures) (c .before .before .before .before .before .if1 .taken) _ _ (c .before .before .before .before .finish .ensures))
+returns c =
+    let put = c .before .before in
+    let ends = put .before .before .before in
+    let v = start (stepped ends) .pre in
+    let e = stepped ends .step .ensures in
+    let t = ends .if1 .taken in
+    (ended v e t, put .put .ensures ∙ ended-out v e t _ _ (put .before .before .finish .ensures))
 
--- src/list.rt:226:16
 add-t24 : tie.Need-add-t24
 add-t24 c = search needs
 
--- src/list.rt:224:9
 returns-2 : tie.Need-returns-2
-returns-2 c = (started _ _ _ _ _ _ _ _ _ _ (c .before .before .before .before .before .before .before .before .before .pre) _ (c .before .before .before .before .before .before .step .ensures) (c .before .before .before .if1 .left) (c .if2 .taken), started-out _ _ _ _ _ _ _ _ _ _ (c .before .before .before .before .before .before .before .before .before .pre) _ (c .before .before .before .before .before .before .step .ensures) (c .before .before .before .if1 .left) (c .if2 .taken) _)
+returns-2 c =
+    let no-end = c .before .before .before in
+    let is = no-end .before .before .before in
+    let v = start is .pre in
+    let e = is .step .ensures in
+    let t = no-end .if1 .left in
+    (started v e t (c .if2 .taken), started-out v e t (c .if2 .taken) _)
 
--- src/list.rt:207:1
 returns-3 : tie.Need-returns-3
-returns-3 c = (stayed _ _ _ _ _ _ _ _ _ _ (c .before .before .before .before .before .before .before .before .before .pre) _ (c .before .before .before .before .before .before .step .ensures) (c .before .before .before .if1 .left) (c .if2 .left), stayed-out _ _ _ _ _ _ _ _ _ _ (c .before .before .before .before .before .before .before .before .before .pre) _ (c .before .before .before .before .before .before .step .ensures) (c .before .before .before .if1 .left) (c .if2 .left) _)
+returns-3 c =
+    let no-end = c .before .before .before in
+    let is = no-end .before .before .before in
+    let v = start is .pre in
+    let e = is .step .ensures in
+    let t = no-end .if1 .left in
+    (stayed v e t (c .if2 .left), stayed-out v e t (c .if2 .left) _)
 
 pub visit-spec : {M : Type 1} → statement M
 visit-spec =

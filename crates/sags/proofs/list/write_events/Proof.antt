@@ -1,20 +1,18 @@
-use Prim.Native.Nat.{ℕ, suc, _+_, _-_, _≤_, _<_}
+-- The invariant: once every slot that waits has its words, the run holds the events that start before half-cycle k; past half-cycle H no slot
+-- waits. The measure is what is left of the half-cycles, H among them. Assumes nothing.
+use Prim.Native.Nat.{ℕ, suc, _+_, _-_, _≤_}
 use native.Mathlib.Nat.{le-trans}
-use mathlib.Core.Path.{_≡_, refl, sym, ap, _∙_}
+use mathlib.Core.Path.{_≡_}
 use native.Mathlib.Numerals.{add-one}
 use native.Mathlib.Omega.{arith}
 use borrow.Author.Needs.{needs}
 use denote.Ref.{now}
 use lib.ListN.{length}
 use Rattle.rules.specs.Halves.{halvesOf}
-use Rattle.rules.proofs.Samples.{Accepts, accepts}
+use Rattle.rules.proofs.Samples.{accepts}
 use Rattle.sags.proofs.Writing.{Writing, writing-start, writing-next, writing-ready, writing-done, wordsBelow, below-fits}
 use Rattle.sags.proofs.list.write_events.Statement.{statement}
 use Rattle.sags.proofs.list.write_events.Tie as tie
-use Rattle.sags.proofs.list.write_events.Reads as reads
-use Rattle.sags.proofs.list.write_events.Lts as lts
-use Rattle.sags.proofs.list.start_pass.Reads as start-pass-reads
-use Rattle.sags.proofs.list.turn.Reads as turn-reads
 
 abbrev Inv-loop : tie.InvT-loop
 Inv-loop s m halves samples out₀ p₀ k₀ out p k = (k ≤ halves + 1) × Writing s samples k p out out₀
@@ -29,15 +27,12 @@ fits c k l =
     let u : k ≤ suc (halvesOf (c .args .s) (now (c .args .samples))) = omega (arith, c .pre .2) in
     le-trans (below-fits (c .args .s) (now (c .args .samples)) k u) (c .pre .4)
 
--- src/list.rt:282:9
 start-pass-requires : tie.Need-start-pass-requires Inv-loop μ-loop
 start-pass-requires c κs = search needs
 
--- src/list.rt:284:5
 loop-holds : tie.Need-loop-holds Inv-loop μ-loop
 loop-holds c = (omega arith, writing-start _ _ _ _ (c .start-pass .ensures))
 
--- src/list.rt:285:9
 turn-requires : tie.Need-turn-requires Inv-loop μ-loop
 turn-requires c κs =
     let s = c .before .before .before .before .before in
@@ -45,28 +40,27 @@ turn-requires c κs =
     let k : l .k ≤ s .args .halves = omega arith in
     (s .pre .0, s .pre .1, s .pre .2, s .pre .3, k, writing-ready _ _ _ _ _ _ (l .inv .1) (fits s (l .k) (omega arith)))
 
--- src/list.rt:286:9
 add-k : tie.Need-add-k Inv-loop μ-loop
-add-k c = omega (arith, c .before .before .before .before .before .before .before .before .pre .2, accepts _ _ (c .before .before .before .before .before .before .before .before .pre .1) .few, c .before .before .before .before .loop-test .taken)
+add-k c =
+    let test = c .before .before .before .before in
+    let p = test .before .before .before .before .pre in
+    omega (arith, p .2, accepts _ _ (p .1) .few, test .loop-test .taken)
 
--- src/list.rt:284:5
 loop-less : tie.Need-loop-less Inv-loop μ-loop
 loop-less c = search needs
 
--- src/list.rt:284:5
 loop-again : tie.Need-loop-again Inv-loop μ-loop
 loop-again c =
-    let s = c .before .before .before .before .before .before .before .before in
-    let l = c .before .before .before .before .before .loop in
     let r = c .before .before .turn .ensures in
-    let k : l .k ≤ s .args .halves = c .before .before .before .before .loop-test .taken in
+    let test = c .before .before .before .before in
+    let l = test .before .loop in
+    let s = test .before .before .before .before in
+    let k : l .k ≤ s .args .halves = test .loop-test .taken in
     (omega arith, rw (add-one, r .0, r .1) (writing-next _ _ _ _ _ _ (l .inv .1) (fits s (suc (l .k)) (omega arith))))
 
--- src/list.rt:278:1
 same-length : tie.Need-same-length Inv-loop μ-loop
 same-length c = search needs
 
--- src/list.rt:278:1
 returns : tie.Need-returns Inv-loop μ-loop
 returns c =
     let s = c .before .before .before .before in

@@ -1,44 +1,33 @@
-use mathlib.Core.Path.{_≡_, sym, _∙_}
+-- `sags::site::add` meets its contract. Each return is the case that its test picks: unsound, turned away by a check of the recording, or handed on.
+-- Assumes nothing.
+use mathlib.Core.Path.{sym, _∙_}
 use Rattle.rules.proofs.DemandThree.{sound-parts}
 use Rattle.sags.proofs.Counts.{add-unsound, add-turned}
 use borrow.Author.Needs.{needs}
 use Rattle.sags.proofs.site.add.Statement.{statement}
 use Rattle.sags.proofs.site.add.Tie as tie
-use Rattle.sags.proofs.site.add.Reads as reads
-use Rattle.sags.proofs.site.add.Lts as lts
-use Rattle.halves.proofs.check_recording.Reads as check-recording-reads
-use Rattle.sags.proofs.site.add_accepted.Reads as add-accepted-reads
-use Rattle.sags.proofs.site.is_unsound.Reads as is-unsound-reads
 
--- src/site.rt:440:8
 is-unsound-requires : tie.Need-is-unsound-requires
 is-unsound-requires c κs = search needs
 
--- src/site.rt:441:9
 returns : tie.Need-returns
 returns c = add-unsound _ _ (sym (c .before .is-unsound .ensures) ∙ c .if1 .taken)
 
--- src/site.rt:447:9
 check-recording-requires : tie.Need-check-recording-requires
 check-recording-requires c κs = sound-parts _ (sym (c .before .before .is-unsound .ensures) ∙ c .before .if1 .left) .good-settings
 
--- src/site.rt:449:28
 enum-told : tie.Need-enum-told
 enum-told c = search needs
 
--- src/site.rt:449:28
 add-accepted-requires : tie.Need-add-accepted-requires
 add-accepted-requires c κs = (sym (c .before .before .before .before .before .is-unsound .ensures) ∙ c .before .before .before .before .if1 .left, sym (c .before .before .check-recording .ensures) ∙ c .enum-told .given .1)
 
--- src/site.rt:450:24
 enum-known-checked : tie.Need-enum-known-checked
 enum-known-checked c = search needs
 
--- src/site.rt:437:1
 returns-2 : tie.Need-returns-2
 returns-2 c = search needs
 
--- src/site.rt:437:1
 returns-3 : tie.Need-returns-3
 returns-3 c = add-turned _ _ (sym (c .before .before .before .before .before .before .is-unsound .ensures) ∙ c .before .before .before .before .before .if1 .left) _ (sym (c .before .before .before .check-recording .ensures) ∙ c .before .checked .given .1)
 

@@ -1,13 +1,13 @@
-use Prim.Native.Nat.{ℕ, _+_, _-_, _≤_, _<_}
-use mathlib.Core.Path.{_≡_, refl, subst}
+-- `sags::site::add_cells` meets its contract. The cells below `i` are added already, the others are as they were. The measure is what is left of the forty.
+-- Assumes nothing.
+use Prim.Native.Nat.{ℕ, _-_, _≤_, _<_}
+use mathlib.Core.Path.{_≡_, subst}
 use native.Mathlib.Omega.{arith}
 use borrow.Author.Needs.{needs}
 use lib.ListN.{length, length-set}
 use Rattle.sags.proofs.Counts.{AddedTo, added-start, added-next, added-all}
 use Rattle.sags.proofs.site.add_cells.Statement.{statement}
 use Rattle.sags.proofs.site.add_cells.Tie as tie
-use Rattle.sags.proofs.site.add_cells.Reads as reads
-use Rattle.sags.proofs.site.add_cells.Lts as lts
 
 abbrev Inv-loop : tie.InvT-loop
 Inv-loop a b sum₀ i₀ sum i = (i ≤ 40) × (length sum ≡ 40) × AddedTo a b i sum
@@ -15,54 +15,42 @@ Inv-loop a b sum₀ i₀ sum i = (i ≤ 40) × (length sum ≡ 40) × AddedTo a 
 abbrev μ-loop : tie.MeasureT-loop
 μ-loop a b sum₀ i₀ sum i = 40 - i
 
--- src/site.rt:335:5
 loop-holds : tie.Need-loop-holds Inv-loop μ-loop
 loop-holds c = (omega arith, c .pre .0, added-start (c .args .t1) (c .args .t2))
 
--- src/site.rt:336:18
 mul-sum : tie.Need-mul-sum Inv-loop μ-loop
 mul-sum c = search needs
 
--- src/site.rt:336:18
 array-read-sum : tie.Need-array-read-sum Inv-loop μ-loop
 array-read-sum c = search needs
 
--- src/site.rt:336:25
 mul-sum-2 : tie.Need-mul-sum-2 Inv-loop μ-loop
 mul-sum-2 c = search needs
 
--- src/site.rt:336:25
 array-read-sum-2 : tie.Need-array-read-sum-2 Inv-loop μ-loop
 array-read-sum-2 c = search needs
 
--- src/site.rt:336:18
 add-sum : tie.Need-add-sum Inv-loop μ-loop
 add-sum c = omega (arith, c .before .before .pre .1 (c .before .loop .i))
 
--- src/site.rt:336:9
 mul-sum-3 : tie.Need-mul-sum-3 Inv-loop μ-loop
 mul-sum-3 c = search needs
 
--- src/site.rt:336:9
 array-write-sum : tie.Need-array-write-sum Inv-loop μ-loop
 array-write-sum c = search needs
 
--- src/site.rt:337:9
 add-i : tie.Need-add-i Inv-loop μ-loop
 add-i c = search needs
 
--- src/site.rt:335:5
 loop-less : tie.Need-loop-less Inv-loop μ-loop
 loop-less c = search needs
 
--- src/site.rt:335:5
 loop-again : tie.Need-loop-again Inv-loop μ-loop
 loop-again c =
     let l = c .before .loop in
     let i : l .i < length (l .sum) = omega arith in
     (omega arith, simp length-set (l .inv .1), added-next (c .before .before .args .t1) (c .before .before .args .t2) (l .i) (l .sum) i (l .inv .2))
 
--- src/site.rt:329:1
 returns : tie.Need-returns Inv-loop μ-loop
 returns c =
     let l = c .before .loop in

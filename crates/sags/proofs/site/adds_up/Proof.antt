@@ -1,25 +1,21 @@
+-- `sags::site::adds_up` meets its contract. A count above the total is told first; then no sum wraps, and the test is the definition.
+-- Assumes nothing.
 use mathlib.Core.Path.{sym}
 use native.Mathlib.Omega.{arith}
 use Rattle.sags.proofs.Counts.{some-above, none-above}
 use borrow.Author.Needs.{needs}
 use Rattle.sags.proofs.site.adds_up.Statement.{statement}
 use Rattle.sags.proofs.site.adds_up.Tie as tie
-use Rattle.sags.proofs.site.adds_up.Reads as reads
-use Rattle.sags.proofs.site.adds_up.Lts as lts
 
--- src/site.rt:273:9
 returns : tie.Need-returns
 returns c = sym (some-above (c .before .args .total) (c .before .args .a) (c .before .args .b) (c .before .args .c) (c .if1 .taken))
 
--- src/site.rt:275:5
 add-result : tie.Need-add-result
 add-result c = let u = none-above (c .before .args .total) (c .before .args .a) (c .before .args .b) (c .before .args .c) (c .if1 .left) in omega (arith, u .0, u .1, c .before .pre)
 
--- src/site.rt:275:5
 add-result-2 : tie.Need-add-result-2
 add-result-2 c = let u = none-above (c .before .args .total) (c .before .args .a) (c .before .args .b) (c .before .args .c) (c .if1 .left) in omega (arith, u .0, u .1, u .2, c .before .pre)
 
--- src/site.rt:268:1
 returns-2 : tie.Need-returns-2
 returns-2 c = search needs
 

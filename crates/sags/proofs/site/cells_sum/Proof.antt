@@ -1,5 +1,7 @@
-use Prim.Native.Nat.{ℕ, suc, _+_, _-_, _≤_, _<_, min}
-use mathlib.Core.Path.{_≡_, refl, sym, ap, _∙_}
+-- `sags::site::cells_sum` meets its contract. The sum so far and what is left make the whole, up to the cap. The measure is what is left of the forty.
+-- Assumes nothing.
+use Prim.Native.Nat.{_+_, _-_, _≤_, _<_, min}
+use mathlib.Core.Path.{_≡_}
 use native.Mathlib.Nat.{zero-add}
 use native.Mathlib.Omega.{arith}
 use borrow.Author.Needs.{needs}
@@ -8,9 +10,6 @@ use Rattle.rules.specs.Site.{total}
 use Rattle.sags.proofs.Counts.{cap-step, total-drop}
 use Rattle.sags.proofs.site.cells_sum.Statement.{statement}
 use Rattle.sags.proofs.site.cells_sum.Tie as tie
-use Rattle.sags.proofs.site.cells_sum.Reads as reads
-use Rattle.sags.proofs.site.cells_sum.Lts as lts
-use Rattle.sags.proofs.kinds.min.Reads as min-reads
 
 abbrev Inv-loop : tie.InvT-loop
 Inv-loop most cells top sum₀ i₀ sum i = (i ≤ 40) × (sum ≤ top) × (min (sum + total (drop i cells)) top ≡ min (total cells) top)
@@ -18,43 +17,33 @@ Inv-loop most cells top sum₀ i₀ sum i = (i ≤ 40) × (sum ≤ top) × (min 
 abbrev μ-loop : tie.MeasureT-loop
 μ-loop most cells top sum₀ i₀ sum i = 40 - i
 
--- src/site.rt:283:15
 add-top : tie.Need-add-top Inv-loop μ-loop
 add-top c = search needs
 
--- src/site.rt:286:5
 loop-holds : tie.Need-loop-holds Inv-loop μ-loop
 loop-holds c = (omega arith, omega arith, rw zero-add)
 
--- src/site.rt:287:29
 mul-min : tie.Need-mul-min Inv-loop μ-loop
 mul-min c = search needs
 
--- src/site.rt:287:29
 array-read-min : tie.Need-array-read-min Inv-loop μ-loop
 array-read-min c = search needs
 
--- src/site.rt:287:25
 min-requires : tie.Need-min-requires Inv-loop μ-loop
 min-requires c κs = search needs
 
--- src/site.rt:287:19
 add-min : tie.Need-add-min Inv-loop μ-loop
 add-min c = search needs
 
--- src/site.rt:287:9
 min-requires-2 : tie.Need-min-requires-2 Inv-loop μ-loop
 min-requires-2 c κs = search needs
 
--- src/site.rt:288:9
 add-i : tie.Need-add-i Inv-loop μ-loop
 add-i c = search needs
 
--- src/site.rt:286:5
 loop-less : tie.Need-loop-less Inv-loop μ-loop
 loop-less c = search needs
 
--- src/site.rt:286:5
 loop-again : tie.Need-loop-again Inv-loop μ-loop
 loop-again c =
     let cs = c .before .before .before .before .args .t1 in
@@ -68,7 +57,6 @@ loop-again c =
           (cap-step (l .sum) (getD cs (l .i) 0) (total (drop (l .i + 1) cs)) (total cs) top (l .inv .1) (rw (← total-drop cs (l .i) i) (l .inv .2))),
     )
 
--- src/site.rt:279:1
 returns : tie.Need-returns Inv-loop μ-loop
 returns c =
     let cs = c .before .before .args .t1 in

@@ -1,3 +1,5 @@
+-- `sags::site::is_unsound` meets its contract. Each test that fails breaks one condition of a sound table; where none fails, the last test is all that is left.
+-- Assumes nothing.
 use Prim.Native.Nat.{_+_, _≤_}
 use mathlib.Core.Path.{_≡_, sym, _∙_}
 use mathlib.Core.Bool.{true}
@@ -11,12 +13,6 @@ use Rattle.sags.proofs.Counts.{settings-bad, settings-fine, total-bad, 
 use borrow.Author.Needs.{needs}
 use Rattle.sags.proofs.site.is_unsound.Statement.{statement}
 use Rattle.sags.proofs.site.is_unsound.Tie as tie
-use Rattle.sags.proofs.site.is_unsound.Reads as reads
-use Rattle.sags.proofs.site.is_unsound.Lts as lts
-use Rattle.halves.proofs.first_bad_setting.Reads as first-bad-setting-reads
-use Rattle.sags.proofs.site.adds_up.Reads as adds-up-reads
-use Rattle.sags.proofs.site.sags_add_up.Reads as sags-add-up-reads
-use Rattle.score.proofs.full_of.Reads as full-of-reads
 
 -- what each test leaves
 fine : (c : tie.Else1) → settingsGood (c .before .before .before .before .args .t .settings) ≡ true
@@ -34,51 +30,39 @@ classed c = sym (c .before .adds-up .ensures) ∙ not-false _ (c .if4 .left)
 placed : (c : tie.Else5) → let t = c .before .before .before .before .before .before .before .before .before .before .before .before .before .before .before .args .t in eqb (total (t .cells) + t .unplaced) (t .sags) ≡ true
 placed c = sym (c .before .sags-add-up .ensures) ∙ not-false _ (c .if5 .left)
 
--- src/site.rt:310:8
 first-bad-setting-requires : tie.Need-first-bad-setting-requires
 first-bad-setting-requires c κs = search needs
 
--- src/site.rt:311:9
 returns : tie.Need-returns
 returns c = settings-bad (c .before .before .before .before .args .t) (λ e. c .if1 .taken (c .before .first-bad-setting .ensures ∙ e))
 
--- src/site.rt:314:9
 returns-2 : tie.Need-returns-2
 returns-2 c = total-bad (c .before .before .before .before .before .before .args .t) (c .if2 .taken)
 
--- src/site.rt:317:9
 returns-3 : tie.Need-returns-3
 returns-3 c = counts-bad (c .before .before .before .before .before .before .before .before .before .before .before .args .t) (c .if3 .taken)
 
--- src/site.rt:319:9
 adds-up-requires : tie.Need-adds-up-requires
 adds-up-requires c κs = search needs
 
--- src/site.rt:320:9
 returns-4 : tie.Need-returns-4
 returns-4 c = classes-bad (c .before .before .before .before .before .before .before .before .before .before .before .before .before .args .t) (sym (c .before .adds-up .ensures) ∙ not-true _ (c .if4 .taken))
 
--- src/site.rt:322:9
 sags-add-up-requires : tie.Need-sags-add-up-requires
 sags-add-up-requires c κs = omega (arith, counted (c .before .before) .sags-high, few (c .before .before .before .before .before .before .before))
 
--- src/site.rt:323:9
 returns-5 : tie.Need-returns-5
 returns-5 c = places-bad (c .before .before .before .before .before .before .before .before .before .before .before .before .before .before .before .args .t) (sym (c .before .sags-add-up .ensures) ∙ not-true _ (c .if5 .taken))
 
--- src/site.rt:325:9
 full-of-requires : tie.Need-full-of-requires
 full-of-requires c κs = fine (c .before .before .before .before .before .before .before .before .before .before .before)
 
--- src/site.rt:325:5
 mul-result : tie.Need-mul-result
 mul-result c = omega (arith, c .full-of .ensures, full-high _ (good _ (fine (c .before .before .before .before .before .before .before .before .before .before .before .before))))
 
--- src/site.rt:325:5
 mul-result-2 : tie.Need-mul-result-2
 mul-result-2 c = rw (c .before .full-of .ensures) (omega (arith, short-high (c .before .before .before .before .before .before .before .before .before .before .before .before .before .before .before .before .before .args .t) (fine (c .before .before .before .before .before .before .before .before .before .before .before .before .before)) (few (c .before .before .before .before .before .before .before .before .before .before .before))))
 
--- src/site.rt:305:1
 returns-6 : tie.Need-returns-6
 returns-6 c = rw (c .before .before .full-of .ensures) (shortfall-tells (c .before .before .before .before .before .before .before .before .before .before .before .before .before .before .before .before .before .before .args .t) (fine (c .before .before .before .before .before .before .before .before .before .before .before .before .before .before)) (few (c .before .before .before .before .before .before .before .before .before .before .before .before)) (counted (c .before .before .before .before .before .before .before)) (classed (c .before .before .before .before .before)) (placed (c .before .before .before)))
 

@@ -1,34 +1,25 @@
+-- `sags::site::land` meets its contract. What a sag's end and an interruption's end add, each by its callee.
+-- Assumes nothing.
 use native.Mathlib.Omega.{arith}
 use borrow.Author.Needs.{needs}
 use Rattle.sags.proofs.site.land.Statement.{statement}
 use Rattle.sags.proofs.site.land.Tie as tie
-use Rattle.sags.proofs.site.land.Reads as reads
-use Rattle.sags.proofs.site.land.Lts as lts
-use Rattle.sags.proofs.site.bump.Reads as bump-reads
-use Rattle.sags.proofs.site.place.Reads as place-reads
-use Rattle.sags.proofs.site.shortfall_by.Reads as shortfall-by-reads
 
--- src/site.rt:165:5
 place-requires : tie.Need-place-requires
 place-requires c κs = search needs
 
--- src/site.rt:167:19
 bump-requires : tie.Need-bump-requires
 bump-requires c κs = search needs
 
--- src/site.rt:168:16
 bump-requires-2 : tie.Need-bump-requires-2
 bump-requires-2 c κs = search needs
 
--- src/site.rt:169:34
 shortfall-by-requires : tie.Need-shortfall-by-requires
 shortfall-by-requires c κs = search needs
 
--- src/site.rt:169:20
 add-t24 : tie.Need-add-t24
 add-t24 c = omega (arith, c .before .before .before .before .before .before .before .before .before .before .before .before .before .before .before .pre .shortfall-low, c .before .shortfall-by .ensures .1)
 
--- src/site.rt:156:1
 returns : tie.Need-returns
 returns c =
     (rw (c .before .before .before .before .before .before .bump .ensures, c .before .before .bump2 .ensures, c .before .shortfall-by .ensures .0), c .before .before .before .before .before .before .before .before .place .ensures)

@@ -1,57 +1,44 @@
+-- `sags::site::merge` meets its contract. Every sum fits, by what is asked, and the code is the definition.
+-- Assumes nothing.
 use native.Mathlib.Omega.{arith}
 use Rattle.sags.specs.Sites.{merged}
 use borrow.Author.Needs.{needs}
 use Rattle.sags.proofs.site.merge.Statement.{statement}
 use Rattle.sags.proofs.site.merge.Tie as tie
-use Rattle.sags.proofs.site.merge.Reads as reads
-use Rattle.sags.proofs.site.merge.Lts as lts
-use Rattle.sags.proofs.site.add_cells.Reads as add-cells-reads
 
--- src/site.rt:352:16
 add-t6 : tie.Need-add-t6
 add-t6 c = search needs
 
--- src/site.rt:353:18
 add-t7 : tie.Need-add-t7
 add-t7 c = search needs
 
--- src/site.rt:354:20
 add-t8 : tie.Need-add-t8
 add-t8 c = search needs
 
--- src/site.rt:355:18
 add-t9 : tie.Need-add-t9
 add-t9 c = omega (arith, c .before .before .before .before .before .before .before .before .before .before .before .pre .unknown-few)
 
--- src/site.rt:356:16
 add-cells-requires : tie.Need-add-cells-requires
 add-cells-requires c κs = (c .before .before .before .before .before .before .before .before .before .before .before .pre .forty, c .before .before .before .before .before .before .before .before .before .before .before .pre .cells-few)
 
--- src/site.rt:357:19
 add-t11 : tie.Need-add-t11
 add-t11 c = omega (arith, c .before .before .before .before .before .before .before .before .before .before .before .before .before .before .pre .unplaced-few)
 
--- src/site.rt:358:15
 add-t12 : tie.Need-add-t12
 add-t12 c = omega (arith, c .before .before .before .before .before .before .before .before .before .before .before .before .before .before .before .before .pre .sags-few)
 
--- src/site.rt:359:24
 add-t13 : tie.Need-add-t13
 add-t13 c = omega (arith, c .before .before .before .before .before .before .before .before .before .before .before .before .before .before .before .before .before .before .pre .interruptions-few)
 
--- src/site.rt:360:17
 add-t14 : tie.Need-add-t14
 add-t14 c = omega (arith, c .before .before .before .before .before .before .before .before .before .before .before .before .before .before .before .before .before .before .before .before .pre .swells-few)
 
--- src/site.rt:361:16
 add-t15 : tie.Need-add-t15
 add-t15 c = omega (arith, c .before .before .before .before .before .before .before .before .before .before .before .before .before .before .before .before .before .before .before .before .before .before .pre .stray-few)
 
--- src/site.rt:362:20
 add-t16 : tie.Need-add-t16
 add-t16 c = omega (arith, c .before .before .before .before .before .before .before .before .before .before .before .before .before .before .before .before .before .before .before .before .before .before .before .before .pre .shortfall-low)
 
--- src/site.rt:343:1
 returns : tie.Need-returns
 unfolding merged
 returns c = rw (c .before .before .before .before .before .before .before .before .before .before .before .before .add-cells .ensures)

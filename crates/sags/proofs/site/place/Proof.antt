@@ -1,3 +1,5 @@
+-- `sags::site::place` meets its contract. The cell lies within the forty, and a count can grow by one.
+-- Assumes nothing.
 use Prim.Native.Nat.{_<_}
 use mathlib.Core.Path.{_≡_}
 use mathlib.Core.Bool.{true}
@@ -6,9 +8,6 @@ use Rattle.rules.proofs.Booleans.{both}
 use Rattle.rules.proofs.Borders.{cell-high}
 use Rattle.sags.proofs.site.place.Statement.{statement}
 use Rattle.sags.proofs.site.place.Tie as tie
-use Rattle.sags.proofs.site.place.Reads as reads
-use Rattle.sags.proofs.site.place.Lts as lts
-use Rattle.score.proofs.cell_at.Reads as cell-at-reads
 
 ended : (c : tie.Then1) → c .before .before .args .ends ≡ true
 ended c = both _ _ (c .if1 .taken) .0
@@ -18,42 +17,33 @@ small c =
     let s = c .before .before .before .before in
     rw (c .cell-at .ensures) (cell-high (s .args .s) (s .args .o .extreme) _)
 
--- src/site.rt:139:39
 sub-cell-at : tie.Need-sub-cell-at
 sub-cell-at c = c .before .before .before .pre .began (ended (c .before))
 
--- src/site.rt:139:17
 cell-at-requires : tie.Need-cell-at-requires
 cell-at-requires c κs =
     let s = c .before .before .before in
     let e = ended (c .before) in
     (s .pre .good-settings, s .pre .extreme e, omega (arith, s .pre .high, s .pre .began e))
 
--- src/site.rt:140:20
 mul-cells : tie.Need-mul-cells
 mul-cells c = omega (arith, small c)
 
--- src/site.rt:140:20
 element-copy-out-cells : tie.Need-element-copy-out-cells
 element-copy-out-cells c = small c
 
--- src/site.rt:140:20
 add-cells : tie.Need-add-cells
 add-cells c = omega (arith, c .before .before .before .before .before .pre .few (c .before .cell-at .result))
 
--- src/site.rt:140:9
 mul-cells-2 : tie.Need-mul-cells-2
 mul-cells-2 c = omega (arith, small (c .before))
 
--- src/site.rt:140:9
 element-write-cells : tie.Need-element-write-cells
 element-write-cells c = small (c .before)
 
--- src/site.rt:134:1
 returns : tie.Need-returns
 returns c = rw (c .before .before .before .if1 .taken, c .before .cell-at .ensures)
 
--- src/site.rt:134:1
 returns-2 : tie.Need-returns-2
 returns-2 c = rw (c .if1 .left)
 

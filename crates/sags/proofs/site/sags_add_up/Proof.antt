@@ -1,4 +1,6 @@
-use mathlib.Core.Path.{_≡_, sym}
+-- `sags::site::sags_add_up` meets its contract. An unplaced count above the sags is told first; a capped sum then tests as the sum itself.
+-- Assumes nothing.
+use mathlib.Core.Path.{sym}
 use Prim.Native.Nat.{_+_}
 use native.Mathlib.Omega.{arith}
 use borrow.Author.Tests.{ne-eqb}
@@ -7,23 +9,16 @@ use Rattle.sags.proofs.Counts.{capped-up}
 use borrow.Author.Needs.{needs}
 use Rattle.sags.proofs.site.sags_add_up.Statement.{statement}
 use Rattle.sags.proofs.site.sags_add_up.Tie as tie
-use Rattle.sags.proofs.site.sags_add_up.Reads as reads
-use Rattle.sags.proofs.site.sags_add_up.Lts as lts
-use Rattle.sags.proofs.site.cells_sum.Reads as cells-sum-reads
 
--- src/site.rt:299:9
 returns : tie.Need-returns
 returns c = sym (ne-eqb (total (c .before .args .cells) + c .before .args .unplaced) (c .before .args .sags) (λ e. omega (arith, c .if1 .taken)))
 
--- src/site.rt:301:5
 cells-sum-requires : tie.Need-cells-sum-requires
 cells-sum-requires c κs = search needs
 
--- src/site.rt:301:5
 add-result : tie.Need-add-result
 add-result c = search needs
 
--- src/site.rt:294:1
 returns-2 : tie.Need-returns-2
 returns-2 c = rw (c .cells-sum .ensures) (capped-up (total (c .before .before .args .cells)) (c .before .before .args .unplaced) (c .before .before .args .sags) (c .before .if1 .left))
 

@@ -1,22 +1,15 @@
-use Prim.Native.Nat.{ℕ, suc, _+_, _-_, _≤_, _<_}
-use mathlib.Core.Path.{_≡_, refl, sym, ap, _∙_}
+-- `sags::site::table_of` meets its contract. Before half-cycle k the survey and the cells are what the rules say of the half-cycles below it. The measure is what is left of them.
+-- Assumes nothing.
+use Prim.Native.Nat.{_-_, _≤_}
+use mathlib.Core.Path.{_≡_, _∙_}
 use native.Mathlib.Omega.{arith}
 use borrow.Author.Needs.{needs}
 use denote.Ref.{now}
-use Rattle.rules.specs.Halves.{known, halfAt, halvesOf}
-use Rattle.rules.proofs.Samples.{Accepts, accepts}
+use Rattle.rules.specs.Halves.{halfAt, halvesOf}
 use Rattle.sags.specs.Sites.{surveyAt, cellsAt}
 use Rattle.sags.proofs.Passes.{at-start, cells-start, ask-last, table-made}
 use Rattle.sags.proofs.site.table_of.Statement.{statement}
 use Rattle.sags.proofs.site.table_of.Tie as tie
-use Rattle.sags.proofs.site.table_of.Reads as reads
-use Rattle.sags.proofs.site.table_of.Lts as lts
-use Rattle.halves.proofs.count_halves.Reads as count-halves-reads
-use Rattle.sags.proofs.kinds.thresholds_of.Reads as thresholds-of-reads
-use Rattle.sags.proofs.site.at_rest.Reads as at-rest-reads
-use Rattle.sags.proofs.site.land.Reads as land-reads
-use Rattle.sags.proofs.site.start_survey.Reads as start-survey-reads
-use Rattle.sags.proofs.site.survey_turn.Reads as survey-turn-reads
 
 abbrev Inv-loop : tie.InvT-loop
 Inv-loop s samples halves m cells₀ p₀ k₀ cells p k =
@@ -28,25 +21,20 @@ abbrev μ-loop : tie.MeasureT-loop
 ended : (c : tie.After-loop Inv-loop μ-loop) → c .before .loop .k ≡ halvesOf (c .before .before .before .before .before .args .s) (now (c .before .before .before .before .before .args .samples))
 ended c = omega (arith, c .before .before .before .before .count-halves .ensures)
 
--- src/site.rt:237:9
 count-halves-requires : tie.Need-count-halves-requires Inv-loop μ-loop
 count-halves-requires c κs = search needs
 
--- src/site.rt:238:9
 thresholds-of-requires : tie.Need-thresholds-of-requires Inv-loop μ-loop
 thresholds-of-requires c κs = search needs
 
--- src/site.rt:240:9
 start-survey-requires : tie.Need-start-survey-requires Inv-loop μ-loop
 start-survey-requires c κs = search needs
 
--- src/site.rt:242:5
 loop-holds : tie.Need-loop-holds Inv-loop μ-loop
 loop-holds c =
     let v = c .before .before .before .pre in
     (omega arith, c .start-survey .ensures ∙ at-start _ _ (v .0) (v .1), cells-start _ _ (v .0) (v .1))
 
--- src/site.rt:243:9
 survey-turn-requires : tie.Need-survey-turn-requires Inv-loop μ-loop
 survey-turn-requires c κs =
     let l = c .before .before .loop in
@@ -60,30 +48,24 @@ survey-turn-requires c κs =
       cells-are = l .inv .2;
     }
 
--- src/site.rt:244:9
 add-k : tie.Need-add-k Inv-loop μ-loop
 add-k c = search needs
 
--- src/site.rt:242:5
 loop-less : tie.Need-loop-less Inv-loop μ-loop
 loop-less c = search needs
 
--- src/site.rt:242:5
 loop-again : tie.Need-loop-again Inv-loop μ-loop
 loop-again c = (omega arith, c .survey-turn .ensures .0, c .survey-turn .ensures .1)
 
--- src/site.rt:246:45
 at-rest-requires : tie.Need-at-rest-requires Inv-loop μ-loop
 at-rest-requires c κs = search needs
 
--- src/site.rt:246:9
 land-requires : tie.Need-land-requires Inv-loop μ-loop
 land-requires c κs =
     let v = c .before .before .before .before .before .before .before .pre in
     let l = c .before .before .before .loop in
     ask-last _ _ (v .0) (v .1) _ _ _ _ _ (c .before .before .before .before .before .before .count-halves .ensures) (ended (c .before .before)) (l .inv .1) (l .inv .2) (c .before .at-rest .ensures)
 
--- src/site.rt:233:1
 returns : tie.Need-returns Inv-loop μ-loop
 returns c =
     let v = c .before .before .before .before .before .before .before .before .before .before .pre in
