@@ -41,90 +41,29 @@ pub struct Score {
 }
 
 /// The functions as C declares them, for a caller that looks at all the memory it lends.
+#[rustfmt::skip]
 pub mod raw {
     extern "C" {
-        #[rustfmt::skip]
         pub fn burr_reason(
-            n: u64,
-            r: u64,
-            f: u64,
-            sag: u64,
-            interruption: u64,
-            swell: u64,
-            hysteresis: u64,
-            kind: u64,
-            start: u64,
-            end: u64,
-            seen: u64,
-            extreme: u64,
-            retained: u64,
-            shortfall: u64,
-            class: u64,
+            n: u64, r: u64, f: u64, sag: u64, interruption: u64, swell: u64, hysteresis: u64,
+            kind: u64, start: u64, end: u64, seen: u64, extreme: u64, retained: u64, shortfall: u64, class: u64,
         ) -> u64;
-        #[rustfmt::skip]
         pub fn burr_cell(
-            n: u64,
-            r: u64,
-            f: u64,
-            sag: u64,
-            interruption: u64,
-            swell: u64,
-            hysteresis: u64,
-            kind: u64,
-            start: u64,
-            end: u64,
-            seen: u64,
-            extreme: u64,
-            retained: u64,
-            shortfall: u64,
-            class: u64,
+            n: u64, r: u64, f: u64, sag: u64, interruption: u64, swell: u64, hysteresis: u64,
+            kind: u64, start: u64, end: u64, seen: u64, extreme: u64, retained: u64, shortfall: u64, class: u64,
         ) -> u64;
-        #[rustfmt::skip]
         pub fn burr_score(
-            n: u64,
-            r: u64,
-            f: u64,
-            sag: u64,
-            interruption: u64,
-            swell: u64,
-            hysteresis: u64,
-            kind: u64,
-            start: u64,
-            end: u64,
-            seen: u64,
-            extreme: u64,
-            retained: u64,
-            shortfall: u64,
-            class: u64,
-            severity: *mut f64,
-            energy: *mut f64,
+            n: u64, r: u64, f: u64, sag: u64, interruption: u64, swell: u64, hysteresis: u64,
+            kind: u64, start: u64, end: u64, seen: u64, extreme: u64, retained: u64, shortfall: u64, class: u64,
+            severity: *mut f64, energy: *mut f64,
         ) -> u64;
-        #[rustfmt::skip]
         pub fn burr_list(
-            n: u64,
-            r: u64,
-            f: u64,
-            sag: u64,
-            interruption: u64,
-            swell: u64,
-            hysteresis: u64,
-            samples: *const i32,
-            samples_len: usize,
-            events: *mut u64,
-            events_len: usize,
-            answer: *mut u64,
+            n: u64, r: u64, f: u64, sag: u64, interruption: u64, swell: u64, hysteresis: u64,
+            samples: *const i32, samples_len: usize, events: *mut u64, events_len: usize, answer: *mut u64,
         ) -> u64;
-        #[rustfmt::skip]
         pub fn burr_fresh(
-            n: u64,
-            r: u64,
-            f: u64,
-            sag: u64,
-            interruption: u64,
-            swell: u64,
-            hysteresis: u64,
-            table: *mut u64,
-            place: *mut u64,
+            n: u64, r: u64, f: u64, sag: u64, interruption: u64, swell: u64, hysteresis: u64,
+            table: *mut u64, place: *mut u64,
         ) -> u64;
         pub fn burr_add(table: *mut u64, samples: *const i32, samples_len: usize, place: *mut u64) -> u64;
     }

@@ -1,2 +1,3 @@
 -- The boundary's laws.
+pub mod Reasons
 pub mod Tables

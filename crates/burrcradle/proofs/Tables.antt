@@ -1,13 +1,13 @@
 -- A table and its 57 numbers are the same thing: each way back gives what was there. So a refused adding leaves the lent numbers
 -- as they were, and a host that keeps a table's numbers keeps the table.
-use Prim.Native.Nat.{ℕ, zero, suc, _+_, _≤_, _<_}
+use Prim.Native.Nat.{ℕ, zero, suc, _+_, _≤_}
 use mathlib.Core.Path.{_≡_, refl, sym, ap, ap₂, _∙_}
-use mathlib.Core.List.{List, [], _∷_, _++_, append-assoc}
+use mathlib.Core.List.{List, [], _∷_, _++_}
 use native.Mathlib.Omega.{arith}
 use lib.ListN.{length, getD, take, drop, replicate, take-append-drop, length-drop}
 use lib.IntN.{ℤ}
-use lib.Seq.{drop-cons, take-all, take-add, drop-drop, take-at, getD-append-add}
-use Rattle.rules.specs.Refusals.{freshened, added, settingsCheck, addCheck}
+use lib.Seq.{drop-cons, take-all, take-add, take-at, getD-append-add}
+use Rattle.rules.specs.Refusals.{freshened, added}
 use Rattle.rules.specs.declared.Settings.{Settings}
 use Rattle.rules.specs.declared.Table.{Table}
 use Rattle.rules.specs.declared.Refusal.{Refusal}

@@ -1,4 +1,4 @@
-// The boundary for C and Rust. Settings are seven numbers and an event is eight, in the order of the rules.
+// The boundary for C and Rust. Settings are seven numbers, an event is eight and a site table 57, in the order of the rules.
 use rules::Event;
 use rules::Listed;
 use rules::Refusal;
@@ -359,8 +359,8 @@ pub extern "C" fn burr_add(table: &mut [u64; 57], samples: &[i32], place: &mut u
     let words = *table;
     let site = sags::site::add(table_of(words), samples);
     let grown = site.table;
-    let answer = site.answer;
+    let taken = site.answer;
     *table = words_of(grown);
-    *place = place_of_taken(answer);
-    number_of_taken(answer)
+    *place = place_of_taken(taken);
+    number_of_taken(taken)
 }

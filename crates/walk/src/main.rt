@@ -1,21 +1,8 @@
 // Walks the channels of K12 and of a ragged run through a view and writes each channel's samples on a line, with the
 // position where there is none. Channel 3, which no run has, is walked too.
-use libc::STDOUT_FILENO;
 use view::Reading;
 ghost use mathlib.Core.Path.{_≡_};
 ghost use lib.ListN.{length};
-
-// A number in decimal after a space.
-fn write_number(x: i32) {
-    let wide = x as i64;
-    if wide < 0 {
-        io::write_all(STDOUT_FILENO, b" -");
-        io::print_decimal(STDOUT_FILENO, (0 - wide) as u64);
-    } else {
-        io::write_all(STDOUT_FILENO, b" ");
-        io::print_decimal(STDOUT_FILENO, wide as u64);
-    }
-}
 
 // The readings of a view from a position on, to the first that is none.
 fn write_from(samples: &[i32], channel: usize, start: usize) {
@@ -25,13 +12,13 @@ fn write_from(samples: &[i32], channel: usize, start: usize) {
         let reading = step.reading;
         match reading {
             Reading::Sample(x) => {
-                write_number(x);
+                print::signed(x);
                 at = step.at;
             }
             Reading::Nothing => {
-                io::write_all(STDOUT_FILENO, b" none at ");
-                io::print_decimal(STDOUT_FILENO, step.at as u64);
-                io::write_all(STDOUT_FILENO, b"\n");
+                print::text(b" none at");
+                print::number(step.at as u64);
+                print::text(b"\n");
                 return;
             }
         }
@@ -42,13 +29,13 @@ fn write_from(samples: &[i32], channel: usize, start: usize) {
 fn write_run(samples: &[i32]) {
     let mut channel: usize = 0;
     while channel < 4 {
-        io::write_all(STDOUT_FILENO, b"channel ");
-        io::print_decimal(STDOUT_FILENO, channel as u64);
-        io::write_all(STDOUT_FILENO, b":");
+        print::text(b"channel");
+        print::number(channel as u64);
+        print::text(b":");
         write_from(samples, channel, 0);
         channel += 1;
     }
-    io::write_all(STDOUT_FILENO, b"far:");
+    print::text(b"far:");
     write_from(samples, 0, 18446744073709551615);
 }
 
@@ -67,10 +54,10 @@ fn k12() -> [i32; 72]
 
 fn main() {
     let run = k12();
-    io::write_all(STDOUT_FILENO, b"K12\n");
+    print::text(b"K12\n");
     write_run(&run);
     // Eight samples: a and b have three, c two; a's second is missing, b's second and third are out of range.
     let ragged: [i32; 8] = [1, 2, 3, -2147483648, 100001, -5, 7, 2147483647];
-    io::write_all(STDOUT_FILENO, b"ragged\n");
+    print::text(b"ragged\n");
     write_run(&ragged);
 }

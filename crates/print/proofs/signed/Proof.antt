@@ -1,4 +1,4 @@
--- `walk::write_number` meets its contract: any i32 fits an i64, and so does what is left of it without its sign.
+-- `print::signed` meets its contract: any i32 fits an i64, and so does what is left of it without its sign.
 -- Assumes nothing.
 use Prim.Native.Nat.{ℕ, suc, _<_, _^_}
 use mathlib.Core.Path.{_≡_, sym, ap, subst, _∙_}
@@ -12,8 +12,8 @@ use lib.Signed.{mag, ltZ, nonNeg}
 use mir.Syntax.{w32, w64}
 use mir.Val.{Fits, SFits, toZ, ofZ}
 use mir.Facts.{sfits-widen, toZ-ofZ}
-use Rattle.walk.proofs.write_number.Statement.{statement}
-use Rattle.walk.proofs.write_number.Tie as tie
+use Rattle.print.proofs.signed.Statement.{statement}
+use Rattle.print.proofs.signed.Tie as tie
 
 module _ (x : ℤ) (f : SFits w32 x) where
   -- x as an i64
@@ -79,8 +79,8 @@ returns c = search needs
 returns-2 : tie.Need-returns-2
 returns-2 c = search needs
 
-pub write-number-spec : {M : Type 1} → statement M
-write-number-spec =
+pub signed-spec : {M : Type 1} → statement M
+signed-spec =
     tie.close
     (tie.spec
     cast-wide

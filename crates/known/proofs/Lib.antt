@@ -1,0 +1,2 @@
+-- What the program leans on.
+pub mod Room
