@@ -46,7 +46,7 @@ pub struct Open {
 }
 
 // Whether the half-cycle is in an event of the kind, where `inside` says it of the one before.
-pub fn goes_on(kind: Kind, m: Marks, inside: bool, l: Level) -> bool
+pub(crate) fn goes_on(kind: Kind, m: Marks, inside: bool, l: Level) -> bool
     requires { ⌜ Low l ⌝ }
     ensures { λ r. ⌜ r ≡ goesBy kind m inside l ⌝ }
 {
@@ -68,7 +68,7 @@ fn mark(full: u64, p: u64) -> u64
 }
 
 // The marks of a kind.
-pub fn marks_of(s: Settings, full: u64, kind: Kind) -> Marks
+fn marks_of(s: Settings, full: u64, kind: Kind) -> Marks
     requires { ⌜ (settingsGood s ≡ true) × (full ≡ fullOf s) ⌝ }
     ensures { λ r. ⌜ r ≡ marksOf s kind ⌝ }
 {
@@ -89,7 +89,7 @@ pub fn marks_of(s: Settings, full: u64, kind: Kind) -> Marks
 }
 
 // What a pass needs of the settings.
-pub fn thresholds_of(s: Settings) -> Thresholds
+pub(crate) fn thresholds_of(s: Settings) -> Thresholds
     requires { ⌜ settingsGood s ≡ true ⌝ }
     ensures { λ r. ⌜ r ≡ thresholdsOf s ⌝ }
 {
@@ -127,7 +127,7 @@ fn short(full: u64, from: u64, sum: u64) -> u64
 }
 
 // What the kinds ask of a half-cycle; `from` is the mark at which a sag begins.
-pub fn level_at(full: u64, from: u64, half: Half) -> Level
+pub(crate) fn level_at(full: u64, from: u64, half: Half) -> Level
     requires { ⌜ (from ≤ 10000 * full) × Few half ⌝ }
     ensures { λ r. ⌜ r ≡ levelBy full from half ⌝ }
 {
@@ -180,7 +180,7 @@ fn pick(first: bool, x: u64, y: u64) -> u64
 }
 
 // No event is going on.
-pub fn none() -> Open
+pub(crate) fn none() -> Open
     ensures { λ r. ⌜ r ≡ closed ⌝ }
 {
     Open {
@@ -232,7 +232,7 @@ fn last(kind: Kind, k: u64, o: Open, l: Level) -> Open
 }
 
 // What half-cycle k makes of the event that is going on; `seen` says whether the half-cycle before it is known.
-pub fn step(kind: Kind, m: Marks, seen: bool, k: u64, o: Open, l: Level) -> Open
+pub(crate) fn step(kind: Kind, m: Marks, seen: bool, k: u64, o: Open, l: Level) -> Open
     requires { ⌜ Low l × Light (o .short) × Light (l .short) ⌝ }
     ensures { λ r. ⌜ r ≡ stepBy kind m seen k o l ⌝ }
 {
