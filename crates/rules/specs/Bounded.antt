@@ -1,7 +1,7 @@
 -- "Some", "every", "how many", "the sum" and "the first" over the whole numbers below a bound, as tests that compute.
 use Prim.Native.Nat.{ℕ, zero, suc, _+_}
-use mathlib.Core.Bool.{Bool, true, false, not, _&&_, _||_, cond}
-use mathlib.Core.List.{List, [], _∷_, _++_}
+use mathlib.Core.Bool.{Bool, true, false, _&&_, _||_, cond}
+use mathlib.Core.List.{List, [], _++_}
 
 -- some j below n passes p
 abbrev pub any : (ℕ → Bool) → ℕ → Bool

@@ -1,14 +1,12 @@
 -- The event list: eight numbers an event, in order of start and then kind.
-use Prim.Native.Nat.{ℕ, zero, suc, _+_, _*_}
-use mathlib.Core.Bool.{Bool, true, false, cond}
+use Prim.Native.Nat.{ℕ, _+_}
+use mathlib.Core.Bool.{cond}
 use mathlib.Core.List.{List, [], _∷_, _++_}
-use lib.ListN.{length}
 use lib.IntN.{ℤ}
-use Rattle.rules.specs.Bounded.{join, count}
+use Rattle.rules.specs.Bounded.{join}
 use Rattle.rules.specs.Halves.{halfAt, halvesOf}
 use Rattle.rules.specs.Events.{starts, endOf, seenOf, extremeOf, earliest, retainedOf, shortsOf, three, sixSums, typeOf}
 use Rattle.rules.specs.declared.Settings.{Settings}
-use Rattle.rules.specs.declared.Half.{Half}
 use Rattle.rules.specs.declared.Kind.{Kind}
 use Rattle.rules.specs.declared.Kind.the-variants.{Sag, Interruption, Swell}
 use Rattle.rules.specs.declared.Event.{Event}

@@ -2,7 +2,7 @@
 use Prim.Native.Nat.{ℕ, zero, suc, _+_, _-_, _*_, min, max}
 use mathlib.Core.Bool.{Bool, true, false, not, _&&_, _||_, cond}
 use mathlib.Core.List.{List, [], _∷_}
-use lib.IntN.{ℤ, pos, natAbs, _-ℤ_, _+ℤ_}
+use lib.IntN.{ℤ, _-ℤ_, _+ℤ_}
 use lib.Dec.{leb, ltb, eqb}
 use Rattle.rules.specs.Bounded.{any, all, bit, sum, before, firstNot}
 use Rattle.rules.specs.Recorder.{sampleAt}
@@ -13,7 +13,6 @@ use Rattle.rules.specs.declared.Half.{Half}
 use Rattle.rules.specs.declared.Half.the-variants.{Unknown, Known}
 use Rattle.rules.specs.declared.Kind.{Kind}
 use Rattle.rules.specs.declared.Kind.the-variants.{Sag, Interruption, Swell}
-use Rattle.rules.specs.declared.Event.{Event}
 
 -- ---- in an event at k
 

@@ -1,8 +1,8 @@
 -- The known answers K1 to K12: one table of cases, one statement.
-use Prim.Native.Nat.{ℕ, zero, suc}
+use Prim.Native.Nat.{ℕ}
 use mathlib.Core.Path.{_≡_, refl}
 use mathlib.Core.List.{List, [], _∷_, _++_, map}
-use lib.ListN.{length, replicate, set}
+use lib.ListN.{replicate, set}
 use lib.IntN.{ℤ, pos, negsuc}
 use lib.Ieee.{binary64, div, ofInt, ofBits}
 use Rattle.rules.specs.Recorder.{firstBad, badSetting, settingsGood}
@@ -16,8 +16,6 @@ use Rattle.rules.specs.declared.Settings.{Settings}
 use Rattle.rules.specs.declared.Event.{Event}
 use Rattle.rules.specs.declared.Scoring.{Scoring}
 use Rattle.rules.specs.declared.Scoring.the-variants.{Scored, Unscored}
-use Rattle.rules.specs.declared.Table.{Table}
-use Rattle.rules.specs.declared.Taken.{Taken}
 use Rattle.rules.specs.declared.Taken.the-variants.{Accepted}
 use Rattle.rules.specs.declared.Listed.{Listed}
 use Rattle.rules.specs.declared.Listed.the-variants.{Events}

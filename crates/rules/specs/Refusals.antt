@@ -1,16 +1,15 @@
 -- What is turned away, and in which order; what each call answers, and what all lent memory holds afterwards.
 use Prim.Native.Nat.{ℕ, _+_, _-_, _*_, _/_, _%_}
-use mathlib.Core.Bool.{Bool, true, false, not, _&&_, _||_, cond}
-use mathlib.Core.List.{List, [], _∷_, _++_}
+use mathlib.Core.Bool.{not, cond}
+use mathlib.Core.List.{List, _++_}
 use lib.ListN.{length, drop}
 use lib.IntN.{ℤ}
-use lib.Dec.{leb, ltb, eqb}
+use lib.Dec.{ltb, eqb}
 use Rattle.rules.specs.Recorder.{badSetting, settingsGood, firstBad}
 use Rattle.rules.specs.Halves.{samplesOf, halvesOf}
 use Rattle.rules.specs.EventList.{eventSize, eventsOf, flat}
 use Rattle.rules.specs.Site.{empty, zeroSettings, grown, isUnsound, mostHalves}
 use Rattle.rules.specs.declared.Settings.{Settings}
-use Rattle.rules.specs.declared.Event.{Event}
 use Rattle.rules.specs.declared.Table.{Table}
 use Rattle.rules.specs.declared.Site.{Site as Handed}
 use Rattle.rules.specs.declared.Refusal.{Refusal}

@@ -1,6 +1,6 @@
 -- Scores: the test of an event, the reasons in their order, severity and energy.
-use Prim.Native.Nat.{ℕ, _+_, _-_, _*_, _/_}
-use mathlib.Core.Bool.{Bool, true, false, not, _&&_, _||_, cond}
+use Prim.Native.Nat.{ℕ, _-_, _*_, _/_}
+use mathlib.Core.Bool.{Bool, not, _&&_, cond}
 use lib.IntN.{pos}
 use lib.Dec.{leb, ltb, eqb}
 use lib.Ieee.{Float, binary64, div, ofInt}

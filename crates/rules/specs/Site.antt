@@ -1,11 +1,11 @@
 -- The site table: rows, columns and cells; each count by its own definition; unsound tables.
-use Prim.Native.Nat.{ℕ, zero, suc, _+_, _-_, _*_}
-use mathlib.Core.Bool.{Bool, true, false, not, _&&_, _||_, cond}
-use mathlib.Core.List.{List, [], _∷_, _++_}
+use Prim.Native.Nat.{ℕ, suc, _+_, _-_, _*_}
+use mathlib.Core.Bool.{Bool, not, _&&_, _||_, cond}
+use mathlib.Core.List.{List, [], _∷_}
 use lib.ListN.{replicate}
 use lib.IntN.{ℤ}
 use lib.Dec.{leb, ltb, eqb}
-use Rattle.rules.specs.Bounded.{any, count, sum, bit}
+use Rattle.rules.specs.Bounded.{any, count, sum}
 use Rattle.rules.specs.Recorder.{settingsGood}
 use Rattle.rules.specs.Halves.{halfAt, halvesOf, known, full, atMost}
 use Rattle.rules.specs.Events.{inEvent, starts, endOf, startSeen, endSeen, extremeOf, shorts, three}
@@ -13,7 +13,6 @@ use Rattle.rules.specs.EventList.{eventFrom}
 use Rattle.rules.specs.Scores.{reasonOf}
 use Rattle.rules.specs.declared.Settings.{Settings}
 use Rattle.rules.specs.declared.Half.{Half}
-use Rattle.rules.specs.declared.Kind.{Kind}
 use Rattle.rules.specs.declared.Kind.the-variants.{Sag, Interruption, Swell}
 use Rattle.rules.specs.declared.Event.{Event}
 use Rattle.rules.specs.declared.Table.{Table}

@@ -1,11 +1,11 @@
 -- The pass over a recording that a site table takes, as the code runs it; proofs/ ties it to the rules.
-use Prim.Native.Nat.{ℕ, zero, suc, _+_, _-_, _*_, _≤_, _<_, _^_}
+use Prim.Native.Nat.{ℕ, zero, suc, _+_, _-_, _*_, _≤_, _<_}
 use mathlib.Core.Path.{_≡_}
 use mathlib.Core.Bool.{Bool, true, false, not, _&&_, _||_, cond}
-use mathlib.Core.List.{List, [], _∷_}
+use mathlib.Core.List.{List}
 use lib.ListN.{length, getD, set, replicate}
 use lib.IntN.{ℤ}
-use lib.Dec.{eqb, leb}
+use lib.Dec.{eqb}
 use Rattle.rules.specs.Bounded.{before, bit, count}
 use Rattle.rules.specs.Recorder.{settingsGood}
 use Rattle.rules.specs.Refusals.{recordingCheck}

@@ -1,5 +1,6 @@
 -- An unknown half-cycle has no level; the sums of a known one are few, and the callees hand back the parts of its level. Assumes nothing.
 use mathlib.Core.Path.{subst}
+use native.Mathlib.Omega.{arith}
 use Rattle.rules.specs.declared.Half.the-variants.{Known}
 use Rattle.sags.specs.Kinds.{Few}
 use borrow.Author.Needs.{needs}
@@ -36,13 +37,13 @@ max-requires-2 : tie.Need-max-requires-2
 max-requires-2 c κs = search needs
 
 short-requires : tie.Need-short-requires
-short-requires c κs = let k = known c in (few k .0, k .before .before .pre .0)
+short-requires c κs = let f = few (known c) in (omega (arith, f), known c .before .before .pre .0)
 
 short-requires-2 : tie.Need-short-requires-2
-short-requires-2 c κs = let k = known (c .before) in (few k .1, k .before .before .pre .0)
+short-requires-2 c κs = let f = few (known (c .before)) in (omega (arith, f), known (c .before) .before .before .pre .0)
 
 short-requires-3 : tie.Need-short-requires-3
-short-requires-3 c κs = let k = known (c .before .before) in (few k .2, k .before .before .pre .0)
+short-requires-3 c κs = let f = few (known (c .before .before)) in (omega (arith, f), known (c .before .before) .before .before .pre .0)
 
 returns-2 : tie.Need-returns-2
 returns-2 c =

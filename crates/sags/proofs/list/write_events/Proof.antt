@@ -55,7 +55,7 @@ loop-again c =
     let test = c .before .before .before .before in
     let l = test .before .loop in
     let s = test .before .before .before .before in
-    let k : l .k ≤ s .args .halves = test .loop-test .taken in
+    let k : l .k ≤ s .args .halves = omega (arith, test .loop-test .taken) in
     (omega arith, rw (add-one, r .0, r .1) (writing-next _ _ _ _ _ _ (l .inv .1) (fits s (suc (l .k)) (omega arith))))
 
 same-length : tie.Need-same-length Inv-loop μ-loop
