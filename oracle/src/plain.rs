@@ -64,13 +64,14 @@ fn count(table: &mut Table, s: &Settings, events: &[Event]) {
 }
 
 /// What one pass over a recording finds.
-struct Walked {
-    events: Vec<Event>,
-    disturbed: u64,
-    unknown: u64,
+pub struct Walked {
+    pub events: Vec<Event>,
+    pub disturbed: u64,
+    pub unknown: u64,
 }
 
-fn walk(s: &Settings, samples: &[i32]) -> Walked {
+/// One pass over a whole run of half-cycles, however many there are: what is cut into parts elsewhere can be held to it.
+pub fn walk(s: &Settings, samples: &[i32]) -> Walked {
     let mut watches = [SAG, INTERRUPTION, SWELL].map(|kind| Watch::new(s, kind));
     let mut walked = Walked { events: Vec::new(), disturbed: 0, unknown: 0 };
     let mut before: Half = None;
