@@ -1,6 +1,6 @@
-//! The terminal: what is said, what is complained of, colours and signs of progress.
+//! The terminal: what is said, what is complained of, signs of progress, and the exit status.
+use crate::failure::Failure;
 use std::{
-    env,
     io::{self, IsTerminal, Write},
     process::ExitCode,
     sync::mpsc::{self, RecvTimeoutError, Sender},
@@ -8,14 +8,50 @@ use std::{
     time::{Duration, Instant},
 };
 
+/// Turned away by the rules.
+pub const REFUSED: u8 = 1;
+/// Bad usage, or a file that can't be read, written or understood.
+pub const BAD: u8 = 2;
+/// Done, but the answer could not be printed: trying again would do it twice.
+pub const DONE_UNSAID: u8 = 3;
+
+/// What a command says.
+pub struct Said {
+    pub text: String,
+    /// What it has done by then that stays done, whether or not the text can be printed.
+    pub done: Option<String>,
+    /// What it found that the rules would turn away.
+    pub refused: Vec<Failure>,
+}
+
+impl Said {
+    /// An answer to a command that has done something.
+    pub fn after(done: String, text: String) -> Said {
+        Said { text, done: Some(done), refused: Vec::new() }
+    }
+}
+
+impl From<String> for Said {
+    fn from(text: String) -> Said {
+        Said { text, done: None, refused: Vec::new() }
+    }
+}
+
 /// Writes a command's answer. A reader that stops early (`| head`) is no error.
-pub fn say(text: &str) -> ExitCode {
+pub fn say(said: &Said) -> ExitCode {
     let mut out = io::stdout().lock();
-    match out.write_all(text.as_bytes()).and_then(|()| out.flush()) {
-        Err(e) if e.kind() != io::ErrorKind::BrokenPipe => {
-            complain(&format!("standard output: {e}"));
-            ExitCode::from(2)
-        }
+    match out.write_all(said.text.as_bytes()).and_then(|()| out.flush()) {
+        Err(e) if e.kind() != io::ErrorKind::BrokenPipe => match &said.done {
+            Some(done) => {
+                complain(&format!("{done}, but the answer could not be printed: standard output: {e}"));
+                ExitCode::from(DONE_UNSAID)
+            }
+            None => {
+                complain(&format!("standard output: {e}"));
+                ExitCode::from(BAD)
+            }
+        },
+        _ if !said.refused.is_empty() => ExitCode::from(REFUSED),
         _ => ExitCode::SUCCESS,
     }
 }
@@ -23,33 +59,6 @@ pub fn say(text: &str) -> ExitCode {
 /// Writes a complaint; where even that fails, there is nobody left to tell.
 pub fn complain(text: &str) {
     let _ = writeln!(io::stderr(), "burrcradle: {text}");
-}
-
-/// Colours, on a terminal only, and only on words that say the same without them.
-pub struct Paint {
-    on: bool,
-}
-
-impl Paint {
-    pub fn stdout() -> Paint {
-        Paint { on: io::stdout().is_terminal() && env::var_os("NO_COLOR").is_none() }
-    }
-
-    pub fn bold(&self, text: &str) -> String {
-        self.with("1", text)
-    }
-
-    pub fn dim(&self, text: &str) -> String {
-        self.with("2", text)
-    }
-
-    fn with(&self, code: &str, text: &str) -> String {
-        if self.on {
-            format!("\x1b[{code}m{text}\x1b[0m")
-        } else {
-            text.to_string()
-        }
-    }
 }
 
 /// Says on standard error what takes long, from the first second on, while it lives.

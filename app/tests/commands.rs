@@ -1,8 +1,8 @@
 //! Each command as people and programs use it.
 mod common;
-use common::{blocks, csv, k2, listed, Folder, KNOWN, MISSING};
+use common::{blocks, csv, k2, listed, Folder, KNOWN};
 
-const COMMANDS: [&str; 7] = ["demo", "new", "add", "list", "show", "report", "explain"];
+const COMMANDS: [&str; 8] = ["demo", "new", "check", "add", "list", "show", "report", "explain"];
 
 #[test]
 fn help_has_an_example_for_each_command() {
@@ -51,8 +51,8 @@ fn list_is_aligned_and_plain() {
     folder.write("k.csv", csv(&k2()));
     let wanted = "\
 k.csv: 5 half-cycles (0.050 s): 2 healthy, 3 disturbed, 0 unknown; 1 event
-  no  kind  start  end   lasted  seen  extreme  retained  shortfall  type  severity   energy  cell
-   1  sag       1    4  0.030 s  both  2000000       500   36000000  A        1.000  0.045 s  17
+  no  kind  start  end       at   lasted  seen  extreme  retained  shortfall  type  severity   energy  cell
+   1  sag       1    4  0.010 s  0.030 s  both  2000000       500   36000000  A        1.000  0.045 s  17
 ";
     assert_eq!(folder.accepted(&[&["list", "k.csv"][..], &KNOWN].concat()), wanted);
 }
@@ -62,9 +62,10 @@ fn list_in_json() {
     let folder = Folder::new("list-json");
     folder.write("k.csv", csv(&k2()));
     let wanted = "{\"settings\":{\"n\":8,\"r\":1000,\"f\":50,\"sag\":90,\"interruption\":10,\"swell\":110,\"hysteresis\":2},\
-        \"recordings\":[{\"recording\":\"k.csv\",\"parts\":[{\"part\":1,\"first_half_cycle\":0,\"half_cycles\":\
+        \"recordings\":[{\"recording\":\"k.csv\",\"half_cycles\":{\"total\":5,\"healthy\":2,\"disturbed\":3,\"unknown\":0},\
+        \"cuts\":[],\"parts\":[{\"part\":1,\"first_half_cycle\":0,\"half_cycles\":\
         {\"total\":5,\"healthy\":2,\"disturbed\":3,\"unknown\":0},\"events\":[{\"kind\":1,\"kind_word\":\"sag\",\"start\":1,\
-        \"end\":4,\"seen\":3,\"extreme\":2000000,\"retained\":500,\"shortfall\":36000000,\"type\":0,\"type_word\":\"A\",\
+        \"end\":4,\"start_seconds\":0.01,\"seen\":3,\"extreme\":2000000,\"retained\":500,\"shortfall\":36000000,\"type\":0,\"type_word\":\"A\",\
         \"reason\":0,\"reason_words\":\"scored\",\"cell\":17,\"severity\":1,\"energy\":0.045}]}]}]}\n";
     assert_eq!(folder.accepted(&[&["list", "k.csv", "--json"][..], &KNOWN].concat()), wanted);
     let swell = csv(&blocks(&[1000, 1000, 1200, 1200, 1000, 1000]));
@@ -91,8 +92,8 @@ fn list_takes_several_recordings() {
     let told = folder.accepted(&[&["list", "one, two.csv", "b.csv", "--csv"][..], &KNOWN].concat());
     let lines: Vec<&str> = told.lines().collect();
     assert_eq!(lines.len(), 3, "{told}");
-    assert!(lines[1].starts_with("\"one, two.csv\",1,0,1,1,sag,1,4,3,"), "{told}");
-    assert!(lines[2].starts_with("b.csv,1,0,1,1,sag,0,1,0,"), "{told}");
+    assert!(lines[1].starts_with("\"one, two.csv\",5,2,3,0,1,0,1,1,sag,1,4,0.01,3,"), "{told}");
+    assert!(lines[2].starts_with("b.csv,1,0,1,0,1,0,1,1,sag,0,1,0,0,"), "{told}");
 }
 
 #[test]
@@ -137,64 +138,10 @@ fn add_tells_what_each_recording_added() {
     assert!(told.contains("\n  b.csv            1  0.010 s        0          1        0     1         1 "), "{told}");
     let json = folder.accepted(&["add", "x.site", "k.csv", "--json"]);
     assert!(json.starts_with("{\"added\":[{\"recording\":\"k.csv\",\"table\":{"), "{json}");
-    assert!(json.contains("}}],\"table\":{"), "{json}");
+    assert!(json.contains("}}],\"cut\":[],\"table\":{"), "{json}");
     assert_eq!(folder.counted("x.site", "total"), 11);
     let ran = folder.run_with(&["add", "x.site", "-"], csv(&k2()).as_bytes());
     assert_eq!((ran.status, folder.counted("x.site", "total")), (0, 16));
-}
-
-/// K5: the sag goes on until all channels are back at 92 percent.
-#[test]
-fn explain_tells_the_landing_with_its_hysteresis() {
-    let folder = Folder::new("explain-k5");
-    folder.write("k.csv", csv(&blocks(&[1000, 899, 899, 919, 919, 920, 920])));
-    let told = folder.accepted(&[&["explain", "k.csv"][..], &KNOWN].concat()).replace("\n             ", " ");
-    for words in [
-        "launch   half-cycle 1 (at 0.010 s): a channel is below 90 % of R; half-cycle 0 before it is known",
-        "peak     half-cycle 1 (at 0.010 s): the smallest sum of squares, 6465608; retained 899 = 89.9 % of R",
-        "landing  half-cycle 5 (at 0.050 s): all channels are back at 92 % or more (90 + hysteresis 2)",
-        "Lasted 4 half-cycles = 0.040 s.",
-        "severity 0.202, energy 0.005 s (shortfall 4603176",
-        "cell 33: row 4 (above 85 %), column 1 (< 0.1 s)",
-    ] {
-        assert!(told.contains(words), "{words}: {told}");
-    }
-}
-
-/// K9: a gap in a sag leaves two, each with an end that nobody saw.
-#[test]
-fn explain_tells_why_there_is_no_score() {
-    let folder = Folder::new("explain-k9");
-    let mut samples = blocks(&[1000, 1000, 500, 500, 500, 500, 1000, 1000]);
-    samples[48] = MISSING;
-    folder.write("k.csv", csv(&samples));
-    let told = folder.accepted(&[&["explain", "k.csv"][..], &KNOWN].concat()).replace("\n             ", " ");
-    for words in [
-        "half-cycle 3 (at 0.030 s): it is unknown, so the end is unseen",
-        "half-cycle 5 (at 0.050 s): a channel is below 90 % of R; half-cycle 4 before it is unknown",
-        "none, reason 2: only the end unseen",
-        "none, reason 1: only the start unseen",
-    ] {
-        assert!(told.contains(words), "{words}: {told}");
-    }
-    folder.write("k.csv", csv(&blocks(&[500, 500])));
-    let told = folder.accepted(&[&["explain", "k.csv", "--json"][..], &KNOWN].concat());
-    assert!(told.contains("the recording begins there") && told.contains("the recording ends there"), "{told}");
-    assert!(told.contains("none, reason 3: both ends unseen"), "{told}");
-}
-
-#[test]
-fn explain_finds_the_peak_of_each_kind() {
-    let folder = Folder::new("explain-peaks");
-    folder.write("k.csv", csv(&blocks(&[1000, 1000, 80, 80, 20, 20, 1000, 1000, 1200, 1300, 1300, 1000, 1000])));
-    let told = folder.accepted(&[&["explain", "k.csv"][..], &KNOWN].concat());
-    for words in [
-        "peak     half-cycle 4 (at 0.040 s): the smallest sum of squares, 3200; retained 20",
-        "peak     half-cycle 9 (at 0.090 s): the largest sum of squares, 13520000; retained 1300",
-    ] {
-        assert!(told.contains(words), "{words}: {told}");
-    }
-    assert_eq!(told.matches("the smallest sum of squares, 3200").count(), 2, "sag and interruption: {told}");
 }
 
 #[test]
@@ -202,11 +149,11 @@ fn demo_lists_tables_and_writes_its_page() {
     let folder = Folder::new("demo");
     let told = folder.accepted(&["demo"]);
     for words in [
-        "   1  sag      19   59  0.400 s  both  12188262852       600  176251862040  Da       1.333  0.052 s  18\n",
+        "   1  sag      19   59  0.190 s  0.400 s  both  12188262852       600  176251862040  Da       1.333  0.052 s  18\n",
         "none: only the end unseen\n",
         "none: only the start unseen\n",
-        "   2  interruption     20   29  0.090 s  both",
-        "   3  swell            60   74  0.140 s  both",
+        "   2  interruption     20   29  0.200 s  0.090 s  both",
+        "   3  swell            60   74  0.600 s  0.140 s  both",
         "  sags           4 (2 unplaced)\n",
         "185 healthy, 103 disturbed, 9 unknown\n",
     ] {

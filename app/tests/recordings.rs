@@ -1,4 +1,4 @@
-//! How recordings are read: what a field may be, what is never taken for voltage, and what cutting does.
+//! How recordings are read: what a field may be, and what is never taken for voltage.
 mod common;
 use common::{blocks, csv, k2, raw, Folder, KNOWN, MISSING};
 
@@ -101,50 +101,4 @@ fn a_raw_file_is_whole_samples() {
     folder.write("k.bin", &bytes);
     assert_eq!(folder.events("k.bin", &["--raw"]).len(), 1);
     folder.bad(&list("nowhere.csv", &[]), "nowhere.csv: ");
-}
-
-/// A sag over a cut: the library sees two, with the ends at the cut unseen; no half-cycle is lost or counted twice.
-#[test]
-fn cutting_says_what_it_does() {
-    let folder = Folder::new("cut");
-    let mut levels = vec![1000; 100_011];
-    levels[99_996..100_006].fill(500);
-    folder.write("long.i32", raw(&blocks(&levels)));
-    let told = folder.accepted(&list("long.i32", &["--cut"]));
-    assert!(told.contains("Cut into 2 parts") && told.contains("that end unseen"), "{told}");
-    assert!(told.contains("long.i32, part 1 of 2: 100000 half-cycles"), "{told}");
-    assert!(told.contains("long.i32, part 2 of 2: 10 half-cycles"), "{told}");
-    let events = folder.events("long.i32", &["--cut"]);
-    let short = |e: &Vec<u64>| (e[1], e[2], e[3], e[8]);
-    assert_eq!(events.iter().map(|(e, _)| short(e)).collect::<Vec<_>>(), [(99_995, 100_000, 1, 2), (0, 6, 2, 1)]);
-    folder.site("x.site");
-    let told = folder.accepted(&["add", "x.site", "long.i32", "--cut"]);
-    assert!(told.contains("long.i32, part 2 of 2"), "{told}");
-    for (name, count) in [("total", 100_010), ("healthy", 99_999), ("disturbed", 11), ("sags", 2), ("unplaced", 2)] {
-        assert_eq!(folder.counted("x.site", name), count, "{name}");
-    }
-}
-
-#[test]
-fn cutting_leaves_a_short_recording_whole() {
-    let folder = Folder::new("cut-short");
-    folder.write("k.csv", csv(&k2()));
-    let whole = folder.accepted(&list("k.csv", &[]));
-    assert_eq!(folder.accepted(&list("k.csv", &["--cut"])), whole);
-    assert!(!whole.contains("Cut into"), "{whole}");
-}
-
-/// The place of a refusal in a part is that part's; the file's place is told beside it.
-#[test]
-fn a_refused_part_is_named() {
-    let folder = Folder::new("cut-refused");
-    let mut samples = blocks(&vec![1000; 100_011]);
-    samples[100_000 * 12 + 13] = 100_001;
-    folder.write("long.i32", raw(&samples));
-    let ran = folder.refused(&list("long.i32", &["--cut"]), 6, 13);
-    assert!(ran.err.contains("long.i32, part 2 of 2: refusal 6"), "{ran:?}");
-    assert!(ran.err.contains("byte 4800052, channel b, 100001"), "{ran:?}");
-    folder.site("x.site");
-    folder.refused(&["add", "x.site", "long.i32", "--cut"], 6, 13);
-    assert_eq!(folder.counted("x.site", "total"), 0, "the first part is not added either");
 }

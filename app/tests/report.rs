@@ -59,7 +59,10 @@ fn unknown_is_hatched_named_and_never_green() {
     assert!(page.contains(">unknown 3-4</text>"));
     assert!(page.contains("half-cycles 3 to 4 (0.030 s to 0.050 s)"));
     assert!(page.contains("unknown 2 (28.6 %)"));
-    assert!(page.contains(".hole, .share.unknown { fill: url(#hatch); }"));
+    assert!(page.contains(".hole { fill: url(#hatch); }"));
+    assert!(page.contains(
+        ".share.unknown { background: repeating-linear-gradient(45deg, var(--hatch) 0 2px, var(--hatch-ground)"
+    ));
     assert_eq!(page.matches(".share.unknown").count(), 1, "no second rule gives it a colour");
     let colour = |name: &str| page.split_once(&format!("--{name}: ")).unwrap().1.split(';').next().unwrap().to_string();
     let parts = |hex: String| [1, 3, 5].map(|at| i32::from_str_radix(&hex[at..at + 2], 16).unwrap());
@@ -124,21 +127,17 @@ fn a_long_recording_makes_a_small_page() {
 }
 
 #[test]
-fn a_report_never_overwrites_what_it_is_made_from() {
-    let folder = Folder::new("report-overwrite");
+fn a_report_adds_nothing() {
+    let folder = Folder::new("report-adds-nothing");
     folder.site("x.site");
     folder.write("k.csv", csv(&k2()));
     let before = (folder.read("x.site"), folder.read("k.csv"));
-    for out in ["x.site", "k.csv", "./k.csv"] {
-        folder.bad(&["report", "x.site", "k.csv", "-o", out], "would overwrite");
-    }
     folder.accepted(&["report", "x.site", "k.csv", "-o", "x.html"]);
     assert_eq!((folder.read("x.site"), folder.read("k.csv")), before);
-    assert_eq!(folder.counted("x.site", "total"), 0, "a report adds nothing");
 }
 
 #[test]
-fn parts_are_drawn_each_with_what_cutting_does() {
+fn parts_are_drawn_each() {
     let folder = Folder::new("report-cut");
     folder.site("x.site");
     folder.write("long.i32", raw(&blocks(&vec![1000; 100_003])));
@@ -147,5 +146,92 @@ fn parts_are_drawn_each_with_what_cutting_does() {
     folder.accepted(&["report", "x.site", "long.i32", "--cut", "-o", "x.html"]);
     let page = folder.read("x.html");
     assert_eq!(page.matches("long.i32, part 2 of 2</h2>").count(), 1);
-    assert!(page.contains("from its half-cycle 100000 on: an event that reaches over a cut is told as two"));
+    assert!(page.contains(
+        "this part goes from half-cycle 100000 (1000.000 s) up to 100002 (1000.020 s). No event reaches over a cut."
+    ));
+}
+
+/// "0 sags" above a sag: the page says that the table need not hold the recordings, and where it can't, that it does not.
+#[test]
+fn the_page_says_how_the_table_stands_to_the_recordings() {
+    let folder = Folder::new("report-relation");
+    folder.site("x.site");
+    folder.write("k.csv", csv(&k2()));
+    let page = || {
+        folder.accepted(&["report", "x.site", "k.csv", "-o", "x.html"]);
+        folder.read("x.html")
+    };
+    let (need_not, not) =
+        ("adds nothing to it: they need not be in it.", "They are not all in it: it counts 0 sags, and they have 1.");
+    assert!(page().contains(need_not) && page().contains(not));
+    folder.accepted(&["add", "x.site", "k.csv"]);
+    assert!(page().contains(need_not) && !page().contains("not all in it"));
+    folder.accepted(&["demo"]);
+    assert!(folder.read("demo.html").contains("The table holds the recordings below and nothing else."));
+}
+
+/// Date, version, settings, and a fingerprint of each recording that everybody's tools give too.
+#[test]
+fn the_page_says_what_it_was_made_from() {
+    let folder = Folder::new("report-made");
+    folder.site("x.site");
+    folder.write("k.csv", csv(&k2()));
+    folder.write("k.i32", raw(&blocks(&[1000; 6])));
+    let day = || {
+        String::from_utf8(std::process::Command::new("date").args(["-u", "+%Y-%m-%d"]).output().unwrap().stdout)
+            .unwrap()
+    };
+    let before = day();
+    folder.accepted(&["report", "x.site", "k.csv", "k.i32", "-o", "x.html"]);
+    let (page, after) = (folder.read("x.html"), day());
+    let made = |day: &str| page.contains(&format!("Made on {} ", day.trim()));
+    assert!(made(&before) || made(&after));
+    assert!(page.contains(&format!(" UTC by burrcradle {}.", env!("CARGO_PKG_VERSION"))));
+    assert!(page.contains("N 8, R 1000, 50 Hz; sag 90 %, interruption 10 %, swell 110 %, hysteresis 2 %"));
+    for (file, bytes) in [("k.csv", csv(&k2()).len()), ("k.i32", 288)] {
+        let sum = std::process::Command::new("sha256sum").arg(folder.path(file)).output().unwrap();
+        let sum = String::from_utf8(sum.stdout).unwrap();
+        let wanted = format!("{bytes} bytes, SHA-256 {}<", sum.split(' ').next().unwrap());
+        assert!(page.contains(&wanted), "{file}: {wanted}");
+    }
+}
+
+/// Unknown time is a tile of its own wherever there is any, and a recording that nobody saw says so.
+#[test]
+fn what_nobody_saw_is_said_on_the_page() {
+    let folder = Folder::new("report-unseen");
+    folder.write("k.csv", csv(&[MISSING; 72]));
+    let unseen = page(&folder, &["k.csv"]);
+    assert!(unseen.contains("<b>0.050 s</b><span>unknown</span><i>5 half-cycles: nobody saw them</i>"));
+    assert!(unseen.contains("<p class=\"unseen\">Nobody saw it: all 5 half-cycles are unknown."));
+    assert!(!unseen.contains("No event."));
+    let folder = Folder::new("report-seen");
+    folder.write("k.csv", csv(&blocks(&[1000; 6])));
+    let seen = page(&folder, &["k.csv"]);
+    assert!(!seen.contains("<span>unknown</span>") && seen.contains("No event."));
+    let folder = Folder::new("report-half-seen");
+    let mut samples = blocks(&[1000; 6]);
+    samples[0] = MISSING;
+    folder.write("k.csv", csv(&samples));
+    let half = page(&folder, &["k.csv"]);
+    assert!(half.contains("<span>unknown</span><i>1 half-cycle: nobody saw"));
+    assert!(half.contains("No event in the 4 half-cycles that somebody saw; 1 is unknown."));
+}
+
+/// The bar of half-cycles is as wide as the page: no drawing of a fixed width, a part of it for each class that there is, each
+/// in proportion and none too narrow to be seen.
+#[test]
+fn the_bar_shrinks_with_the_page() {
+    let folder = Folder::new("report-bar");
+    folder.write("k.csv", csv(&gap()));
+    let page = page(&folder, &["k.csv"]);
+    let bar = page.split_once("<h3>Half-cycles</h3>").unwrap().1.split_once("<h3>").unwrap().0;
+    assert!(!bar.contains("<svg"), "{bar}");
+    let wanted = "<div class=\"shares\" role=\"img\" aria-label=\"2 healthy, 3 disturbed, 2 unknown half-cycles\">\
+        <i class=\"share healthy\" style=\"flex-grow:28.5714\"></i><i class=\"share disturbed\" style=\"flex-grow:42.8571\"></i>\
+        <i class=\"share unknown\" style=\"flex-grow:28.5714\"></i></div>";
+    assert!(bar.contains(wanted), "{bar}");
+    assert!(
+        page.contains(".shares { display: flex;") && page.contains(".shares .share { flex: 0 1 0; min-width: 4px; }")
+    );
 }

@@ -116,27 +116,6 @@ fn a_refused_recording_holds_back_the_others() {
     assert_eq!(folder.read("x.site"), before);
 }
 
-/// What a kill in mid-write leaves beside the site: the site is whole, and the next add goes through.
-#[test]
-fn a_half_written_companion_is_no_harm() {
-    let folder = with_k2("site-stale");
-    folder.write(".x.site.new", "burrcradle site 1\nn 8\nr 10");
-    assert_eq!(folder.counted("x.site", "total"), 0);
-    folder.accepted(&["add", "x.site", "k.csv"]);
-    assert_eq!(folder.counted("x.site", "total"), 5);
-    assert!(!folder.path(".x.site.new").exists());
-}
-
-#[test]
-fn a_failed_writing_leaves_the_old_table() {
-    let folder = with_k2("site-unwritable");
-    folder.accepted(&["add", "x.site", "k.csv"]);
-    let before = folder.read("x.site");
-    fs::create_dir(folder.path(".x.site.new")).unwrap();
-    folder.bad(&["add", "x.site", "k.csv"], ".x.site.new: ");
-    assert_eq!(folder.read("x.site"), before);
-}
-
 /// Adds that are killed at all moments of their run: the table is the old or the new one each time.
 #[test]
 fn kills_leave_the_old_or_the_new_table() {
@@ -184,9 +163,9 @@ fn adds_at_once_lose_nothing() {
 #[test]
 fn an_add_waits_for_another_and_says_so_when_it_gives_up() {
     let folder = with_k2("site-lock");
-    let lock = File::create(folder.path(".x.site.lock")).unwrap();
+    let lock = File::open(folder.path("x.site")).unwrap();
     lock.lock().unwrap();
-    folder.bad(&["add", "x.site", "k.csv", "--wait", "0"], "another burrcradle is writing to this site");
+    folder.bad(&["add", "x.site", "k.csv", "--wait", "0"], "x.site: another burrcradle is writing to this site");
     assert_eq!(folder.counted("x.site", "total"), 0, "reading needs no lock");
     thread::scope(|scope| {
         let waiting = scope.spawn(|| folder.accepted(&["add", "x.site", "k.csv", "--wait", "60"]));

@@ -1,5 +1,9 @@
 //! The command line: what a command takes, and what it was given.
-use crate::{failure::Failure, words::SETTINGS};
+use crate::{
+    answered::table::{settings, SETTINGS},
+    failure::Failure,
+    keeping::site,
+};
 use host::Settings;
 use std::{
     ffi::{OsStr, OsString},
@@ -123,14 +127,15 @@ impl Args {
         }
     }
 
-    /// The site whose settings hold; a site and settings of one's own exclude each other.
-    pub fn site(&self) -> Result<Option<&Path>, Failure> {
-        let own = SETTINGS.iter().any(|(name, ..)| self.value(&format!("--{name}")).is_some());
+    /// The settings of the site or of the options; the two exclude each other.
+    pub fn settings_or_site(&self) -> Result<Settings, Failure> {
+        let own = SETTINGS.iter().any(|name| self.value(&format!("--{name}")).is_some());
         match self.value("--site") {
             Some(_) if own => {
                 usage("--site has its settings already: leave out --n, --r, --f and the thresholds".into())
             }
-            site => Ok(site.map(Path::new)),
+            Some(path) => Ok(settings(&site::load(Path::new(path))?)),
+            None => self.settings(),
         }
     }
 

@@ -1,16 +1,30 @@
 //! Three training recordings that the program carries with it, each made for an error that trainees make.
+use super::{
+    args::{Args, Takes},
+    report::{now, wish},
+};
 use crate::{
-    answer::{self, Wish},
-    args::Args,
-    commands,
+    asking::{self, curve},
     failure::Failure,
-    recording::{Recording, MISSING},
-    report,
-    term::Paint,
-    text, words,
+    keeping::page as kept,
+    reading::{
+        self,
+        recording::{Recording, MISSING},
+    },
+    showing::{
+        page::{
+            self,
+            contents::{Contents, Shown},
+        },
+        paint::Paint,
+        text, words,
+    },
+    terminal::Said,
 };
 use host::Settings;
 use std::{f64::consts::TAU, path::Path};
+
+pub const TAKES: Takes = Takes { files: &[], many: false, values: &[], flags: &["--save", "--force"] };
 
 const SETTINGS: Settings = Settings { n: 64, r: 23_000, f: 50, sag: 90, interruption: 10, swell: 110, hysteresis: 2 };
 
@@ -75,29 +89,39 @@ fn recording(lesson: &Lesson) -> Recording {
             samples.push(if lost { MISSING } else { (peak * angle.sin()).round() as i32 });
         }
     }
-    Recording::made(lesson.file, samples)
+    Recording { name: lesson.file.to_string(), samples, first_line: Some(2), fingerprint: None }
 }
 
 /// The `demo` command.
-pub fn run(args: &Args) -> Result<String, Failure> {
-    let (s, paint) = (&SETTINGS, Paint::stdout());
+pub fn run(args: &Args) -> Result<Said, Failure> {
+    let (s, paint, out) = (&SETTINGS, Paint::stdout(), Path::new("demo.html"));
+    let (save, force) = (args.flag("--save"), args.flag("--force"));
+    let made: Vec<(&Lesson, Recording)> = LESSONS.iter().map(|lesson| (lesson, recording(lesson))).collect();
+    // All that is to be written is held against what is there before any of it is written.
+    kept::may_go(out, page::MARK, force)?;
+    for (lesson, recording) in made.iter().filter(|_| save) {
+        kept::may_go_as(Path::new(lesson.file), as_csv(recording).as_bytes())?;
+    }
     let (_, mut table) = host::fresh(s);
-    let (mut said, mut drawn) = (format!("Settings: {}\n", words::settings(s)), Vec::new());
-    for lesson in &LESSONS {
-        let recording = recording(lesson);
-        let answers = answer::about(s, &recording, Wish::default())?;
-        said += &format!("\n{}{}\n", text::list(s, &answers, &paint), text::wrapped(lesson.error, "  "));
-        host::add(&mut table, &recording.samples)
-            .map_err(|refused| answer::refusal(&recording, &recording.whole(), refused))?;
-        drawn.extend(report::draw(s, &recording, false, lesson.error)?);
-        if args.flag("--save") {
-            commands::write(Path::new(lesson.file), &as_csv(&recording))?;
+    let (mut said, mut recordings) = (format!("Settings: {}\n", words::settings(s)), Vec::new());
+    for (lesson, recording) in &made {
+        let answer = asking::about(s, recording, wish(false))?;
+        said += &format!("\n{}{}\n", text::list(s, &answer, &paint), text::wrapped(lesson.error, "  "));
+        asking::add(&mut table, recording, false)?;
+        let bytes = as_csv(recording);
+        let fingerprint = Some(reading::fingerprint(bytes.as_bytes()));
+        recordings.push(Shown { answer, fingerprint, note: lesson.error.to_string() });
+        if save {
+            kept::write_as(Path::new(lesson.file), bytes.as_bytes())?;
         }
     }
     said += &format!("\n{}", text::table("demo", &table, &paint));
-    commands::write(Path::new("demo.html"), &report::page("demo", &table, &drawn))?;
+    let curve = curve::steps(s);
+    let contents =
+        Contents { name: "demo", table: &table, holds: true, recordings: &recordings, curve: &curve, made: now() };
+    kept::write(out, &page::page(&contents), page::MARK, force)?;
     said += "\ndemo.html: written, the same as a page for the browser or the printer\n";
-    Ok(said + &saved(args.flag("--save")))
+    Ok(Said::after("demo.html: the page was written".into(), said + &saved(save)))
 }
 
 fn saved(save: bool) -> String {

@@ -6,6 +6,7 @@ for each site. Every answer comes from a library whose code is proved against th
 
     burrcradle demo                        three training recordings, listed, scored and tabled; writes demo.html
     burrcradle new SITE --n N --r R --f F  makes a site's file with an empty table
+    burrcradle check RECORDING...          whether recordings fit the settings, before anything is added
     burrcradle add SITE RECORDING...       adds recordings to the site's table
     burrcradle list RECORDING...           the events of recordings, with their scores
     burrcradle show SITE                   the site's table
@@ -17,16 +18,19 @@ for each site. Every answer comes from a library whose code is proved against th
 A recording is CSV (three columns a, b, c to a line, an optional header; an empty field or the word missing is a missing
 sample) or, where its name ends in .i32, raw little-endian 32-bit samples, interleaved. - is standard input.
 
-Exit status: 0 accepted, 1 refused by the rules, 2 bad usage or a bad file.
+Exit status: 0 accepted, 1 refused by the rules, 2 bad usage or a bad file, 3 done, but the answer could not be printed: the
+table or the page was written, and trying again would do it twice.
 ";
 
 pub const DEMO: &str = "\
-burrcradle demo [--save]
+burrcradle demo [--save] [--force]
 
 Lists, scores and tables three training recordings that the program carries with it, each made for an error that
-trainees make, and writes demo.html to the current folder.
+trainees make, and writes demo.html to the current folder. A demo.html that is no page of burrcradle's is left as it is.
 
-    --save    also writes the three recordings as CSV, to try the other commands on
+    --save    also writes the three recordings as CSV, to try the other commands on; other files of their names are left
+              as they are
+    --force   writes the page over whatever is there
 
 Example:
     burrcradle demo --save
@@ -49,14 +53,33 @@ Example:
     burrcradle new depot.site --n 256 --r 23000 --f 50
 ";
 
+pub const CHECK: &str = "\
+burrcradle check RECORDING... (--site SITE | --n N --r R --f F [--sag 90] [--interruption 10] [--swell 110]
+                 [--hysteresis 2]) [--raw] [--json | --csv]
+
+Tells whether recordings fit the settings, before anything is added: the rms of each channel in percent of R (median and
+range over the half-cycles), its missing samples and those out of range, its longest run of one value, the period of its
+samples, how many half-cycles and seconds there are, and whether the length fits N/2. It warns of a channel that nobody saw,
+that is dead (never 5 % of R) or stuck (one value for a cycle or longer), of a median outside 80 to 120 % of R, of an N that
+is not the period, and says whether the recording would be refused. Warnings leave the exit status at 0; a recording that
+would be refused makes it 1.
+
+    --site    takes the settings of a site
+    --raw     reads recordings as raw 32-bit samples whatever their names, standard input too
+
+Example:
+    burrcradle check monday.csv --n 256 --r 23000 --f 50
+";
+
 pub const ADD: &str = "\
 burrcradle add SITE RECORDING... [--cut] [--raw] [--wait SECONDS] [--json | --csv]
 
 Adds each recording to the site's table: all of them, or none where one is refused, so that a second try counts nothing
-twice. Adding the same recording again counts it again.
+twice. Adding the same recording again counts it again; exit status 3 says that the table was written, and only the answer
+could not be printed. A warning on standard error names a recording whose median rms lies outside 80 to 120 % of R.
 
-    --cut     cuts a recording of more than 100,000 half-cycles into parts. An event that reaches over a cut becomes two,
-              with the ends at the cut unseen: such sags have no score and are unplaced
+    --cut     cuts a recording of more than 100,000 half-cycles into parts, between events, so that each keeps its score.
+              Where a stretch of 100,000 has no such place it is cut at its end, and the events that this splits are named
     --raw     reads recordings as raw 32-bit samples whatever their names, standard input too
     --wait    how long to wait while another add writes to this site (60 seconds if not said)
     --json, --csv   the site's table for programs; JSON also has what each recording added
@@ -69,12 +92,13 @@ pub const LIST: &str = "\
 burrcradle list RECORDING... (--site SITE | --n N --r R --f F [--sag 90] [--interruption 10] [--swell 110]
                 [--hysteresis 2]) [--cut] [--raw] [--room NUMBERS] [--json | --csv]
 
-Lists the events of recordings with their scores. Half-cycles are numbered from 0; an event goes from start up to but
-not with end.
+Lists the events of recordings with their scores. Half-cycles are numbered from 0 in the whole recording, also where it is cut;
+an event goes from start up to but not with end, and begins at so many seconds. In CSV each row has its recording's total,
+healthy, disturbed and unknown half-cycles, and a recording without events has one row of kind 0, none.
 
     --site    takes the settings of a site
-    --cut     cuts a recording of more than 100,000 half-cycles into parts. An event that reaches over a cut becomes two,
-              with the ends at the cut unseen: such sags have no score
+    --cut     cuts a recording of more than 100,000 half-cycles into parts, between events, so that each keeps its score.
+              Where a stretch of 100,000 has no such place it is cut at its end, and the events that this splits are named
     --raw     reads recordings as raw 32-bit samples whatever their names, standard input too
     --room    room for so many numbers, eight to an event, instead of as many as are needed
     --json, --csv   for programs: all eight numbers of each event, reason, cell, severity, energy
@@ -95,13 +119,16 @@ Example:
 ";
 
 pub const REPORT: &str = "\
-burrcradle report SITE RECORDING... -o FILE.html [--cut] [--raw]
+burrcradle report SITE RECORDING... -o FILE.html [--force] [--cut] [--raw]
 
 Writes one HTML page: the site's table as it stands, and the recordings with their curves and events under the site's
-settings. It adds nothing to the table.
+settings. It adds nothing to the table, which need not hold the recordings, and the page says so, with the date and each
+recording's length and SHA-256.
 
-    -o        where the page goes
-    --cut     cuts a recording of more than 100,000 half-cycles into parts
+    -o        where the page goes: - is standard output. A file that is there already is written over only if it is a page of
+              burrcradle's; the new page is made beside it and then takes its place
+    --force   writes over any file, but never over what the page is made from
+    --cut     cuts a recording of more than 100,000 half-cycles into parts, between events where that can be had
     --raw     reads recordings as raw 32-bit samples whatever their names, standard input too
 
 Example:
@@ -112,7 +139,8 @@ pub const EXPLAIN: &str = "\
 burrcradle explain RECORDING... (--site SITE | --n N --r R --f F [--sag 90] [--interruption 10] [--swell 110]
                 [--hysteresis 2]) [--cut] [--raw] [--json | --csv]
 
-Tells each event in words: its launch, peak and landing, and why it has or has no score.
+Tells each event in words: which channels launched it and how far they went, its peak, which condition ended it, and how its
+score comes about, or why it has none.
 
 Example:
     burrcradle explain monday.csv --site depot.site

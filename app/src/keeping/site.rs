@@ -1,14 +1,15 @@
 //! A site's file: a version line, then the table's 57 numbers by name, one to a line. It is replaced as a whole, so that
 //! a kill at any moment leaves the old or the new table, and a file that makes no sense is never written over.
+use super::beside::{self, Beside};
 use crate::{
+    answered::table,
     failure::{Failure, Refusal},
-    words,
 };
 use host::{Refused, Table, TABLE};
 use std::{
-    ffi::OsString,
-    fs::{self, File, TryLockError},
-    io::Write,
+    fs::{self, File, Metadata, TryLockError},
+    io::{self, ErrorKind},
+    os::unix::fs::MetadataExt,
     path::{Path, PathBuf},
     thread,
     time::{Duration, Instant},
@@ -16,20 +17,11 @@ use std::{
 
 const VERSION: &str = "burrcradle site 1";
 
-/// The names of the table's numbers, in order.
-pub fn names() -> Vec<String> {
-    let settings = words::SETTINGS.iter().map(|(name, ..)| name.to_string());
-    let halves = ["total", "healthy", "disturbed", "unknown"].map(String::from);
-    let cells = (0..40).map(|cell| format!("cell-{cell}"));
-    let events = ["unplaced", "sags", "interruptions", "swells", "stray", "shortfall"].map(String::from);
-    settings.chain(halves).chain(cells).chain(events).collect()
-}
-
 /// The table of a site's file, which the library finds sound.
 pub fn load(path: &Path) -> Result<Table, Failure> {
     let name = path.display().to_string();
-    let bytes = fs::read(path).map_err(|e| Failure::File(format!("{name}: {e}")))?;
-    let table = parse(&bytes).map_err(|why| Failure::File(format!("{name}: {why}")))?;
+    let bytes = fs::read(path).map_err(|e| Failure::file(&name, e))?;
+    let table = parse(&bytes).map_err(|why| Failure::file(&name, why))?;
     match sound(&table) {
         Ok(()) => Ok(table),
         Err(refused) => {
@@ -63,7 +55,7 @@ fn parse(bytes: &[u8]) -> Result<Table, String> {
         return Err(format!("line 1: {version:?} where {VERSION:?} is wanted: no site's file, or of another version"));
     }
     let mut table = [0; TABLE];
-    for (word, name) in table.iter_mut().zip(names()) {
+    for (word, name) in table.iter_mut().zip(table::names()) {
         let (at, line) = next(&name)?;
         *word = value(&line, &name).map_err(|why| format!("line {at}: {why}"))?;
     }
@@ -85,53 +77,73 @@ fn value(line: &str, name: &str) -> Result<u64, String> {
 
 fn render(table: &Table) -> String {
     let mut text = format!("{VERSION}\n");
-    for (name, word) in names().iter().zip(table) {
+    for (name, word) in table::names().iter().zip(table) {
         text.push_str(&format!("{name} {word}\n"));
     }
     text
 }
 
-/// A site that nobody else writes to while this lives.
+/// Makes a site's file where there is none.
+pub fn create(path: &Path, table: &Table) -> Result<(), Failure> {
+    let there = || Failure::file(path.display(), "there is such a file already, and it is left as it is");
+    if path.file_name().is_none() {
+        return Err(Failure::file(path.display(), "no name for a file"));
+    }
+    if fs::symlink_metadata(path).is_ok() {
+        return Err(there());
+    }
+    let written = Beside::write(path, render(table).as_bytes(), None).and_then(|beside| beside.place(path));
+    written.map_err(|e| match e.kind() {
+        ErrorKind::AlreadyExists => there(),
+        _ => Failure::file(path.display(), format!("could not be made: {e}")),
+    })
+}
+
+/// A site that nobody else writes to while this lives. The lock is on the site's file itself, so whoever may write to it
+/// can take the lock, and it ends with its process.
 pub struct Locked {
+    name: String,
+    /// The file itself, through links, so that two names of one site share one lock.
     path: PathBuf,
+    found: Metadata,
     _lock: File,
+}
+
+/// Whether the site's file may be written to: somebody's wish that it stay as it is holds for everybody.
+pub fn writable(path: &Path) -> Result<(), Failure> {
+    open(path).map(drop)
+}
+
+fn open(path: &Path) -> Result<(File, Metadata), Failure> {
+    let told = |e: io::Error| Failure::file(path.display(), format!("can't be written to: {e}"));
+    let found = fs::metadata(path).map_err(|e| Failure::file(path.display(), e))?;
+    if found.permissions().readonly() {
+        return Err(Failure::file(path.display(), "the site is read-only, and is left as it is"));
+    }
+    let file = File::options().read(true).write(true).open(path).map_err(told)?;
+    let found = file.metadata().map_err(told)?;
+    Ok((file, found))
 }
 
 /// Locks a site that exists.
 pub fn lock(path: &Path, wait: Duration) -> Result<Locked, Failure> {
-    // Through links to the file itself, so that two names of one site share one lock.
-    let real = fs::canonicalize(path).map_err(|e| Failure::File(format!("{}: {e}", path.display())))?;
-    take_lock(real, wait)
-}
-
-/// Locks the place of a site that must not exist yet.
-pub fn lock_new(path: &Path, wait: Duration) -> Result<Locked, Failure> {
-    let told = |why: &dyn std::fmt::Display| Failure::File(format!("{}: {why}", path.display()));
-    let name = path.file_name().ok_or_else(|| told(&"no name for a file"))?;
-    let folder = path.parent().filter(|f| !f.as_os_str().is_empty()).unwrap_or(Path::new("."));
-    let folder = fs::canonicalize(folder).map_err(|e| told(&e))?;
-    let locked = take_lock(folder.join(name), wait)?;
-    if fs::symlink_metadata(&locked.path).is_ok() {
-        return Err(told(&"there is such a file already, and it is left as it is"));
-    }
-    Ok(locked)
-}
-
-fn take_lock(path: PathBuf, wait: Duration) -> Result<Locked, Failure> {
-    let file = beside(&path, "lock");
-    let told = |why: String| Failure::File(format!("{}: {why}", file.display()));
-    let opened = File::options().create(true).append(true).open(&file);
-    let lock = opened.map_err(|e| told(e.to_string()))?;
+    let real = fs::canonicalize(path).map_err(|e| Failure::file(path.display(), e))?;
     let began = Instant::now();
     loop {
-        match lock.try_lock() {
-            Ok(()) => return Ok(Locked { path, _lock: lock }),
-            Err(TryLockError::Error(e)) => return Err(told(format!("can't be locked: {e}"))),
+        let (file, found) = open(path)?;
+        match file.try_lock() {
+            // Whoever had the lock may have put a new file in its place meanwhile: then that one is to be locked.
+            Ok(()) if fs::metadata(&real).is_ok_and(|now| (now.dev(), now.ino()) == (found.dev(), found.ino())) => {
+                return Ok(Locked { name: path.display().to_string(), path: real, found, _lock: file });
+            }
+            Ok(()) => continue,
+            Err(TryLockError::Error(e)) => {
+                return Err(Failure::file(path.display(), format!("can't be locked: {e}")));
+            }
             Err(TryLockError::WouldBlock) if began.elapsed() >= wait => {
-                let waited = wait.as_secs();
-                return Err(told(format!(
-                    "another burrcradle is writing to this site, waited {waited} s, added nothing"
-                )));
+                let why =
+                    format!("another burrcradle is writing to this site, waited {} s, added nothing", wait.as_secs());
+                return Err(Failure::file(path.display(), why));
             }
             Err(TryLockError::WouldBlock) => thread::sleep(Duration::from_millis(10)),
         }
@@ -141,28 +153,11 @@ fn take_lock(path: PathBuf, wait: Duration) -> Result<Locked, Failure> {
 impl Locked {
     /// Puts the table in the file's place: written beside it, synced, renamed over it, and the renaming synced too.
     pub fn save(&self, table: &Table) -> Result<(), Failure> {
-        let beside = beside(&self.path, "new");
-        let told = |e: std::io::Error| Failure::File(format!("{}: {e}", beside.display()));
-        let mut file = File::create(&beside).map_err(told)?;
-        file.write_all(render(table).as_bytes()).map_err(told)?;
-        if let Ok(old) = fs::metadata(&self.path) {
-            file.set_permissions(old.permissions()).map_err(told)?;
-        }
-        file.sync_all().map_err(told)?;
-        fs::rename(&beside, &self.path).map_err(told)?;
-        let folder = self.path.parent().unwrap_or(Path::new("/"));
-        // Elsewhere a folder is no file that could be synced.
-        if cfg!(unix) {
-            File::open(folder).and_then(|folder| folder.sync_all()).map_err(told)?;
-        }
-        Ok(())
+        beside::sweep(&self.path);
+        let beside = Beside::write(&self.path, render(table).as_bytes(), Some(&self.found));
+        let saved = beside.and_then(|beside| beside.replace(&self.path));
+        saved.map_err(|e| {
+            Failure::file(&self.name, format!("the new table could not be written: {e}; the old one stands"))
+        })
     }
-}
-
-/// The file's companion in the same folder, so that a rename stays within one file system.
-fn beside(path: &Path, what: &str) -> PathBuf {
-    let mut name = OsString::from(".");
-    name.push(path.file_name().unwrap_or_default());
-    name.push(format!(".{what}"));
-    path.with_file_name(name)
 }

@@ -1,9 +1,10 @@
 //! Answers as CSV, for spreadsheets.
-use crate::{answer::Answer, site, text, words};
+use super::{explain, words};
+use crate::answered::{table, Answer, Found, Part};
 use host::{Settings, Table};
 
 /// A line of fields, each quoted where it must be.
-fn line(fields: &[String]) -> String {
+pub fn line(fields: &[String]) -> String {
     let quoted = fields.iter().map(|field| {
         if field.contains([',', '"', '\n', '\r']) {
             format!("\"{}\"", field.replace('"', "\"\""))
@@ -14,38 +15,76 @@ fn line(fields: &[String]) -> String {
     quoted.collect::<Vec<_>>().join(",") + "\n"
 }
 
-const HEAD: &str = "recording,part,first_half_cycle,event,kind,kind_word,start,end,seen,extreme,retained,shortfall,\
-                    type,type_word,reason,reason_words,cell,severity,energy";
+/// What a row says of its recording, and then of its event.
+const RECORDING: [&str; 5] = ["recording", "total", "healthy", "disturbed", "unknown"];
+const EVENT: [&str; 19] = [
+    "part",
+    "first_half_cycle",
+    "event",
+    "kind",
+    "kind_word",
+    "start",
+    "end",
+    "start_seconds",
+    "seen",
+    "extreme",
+    "retained",
+    "shortfall",
+    "type",
+    "type_word",
+    "reason",
+    "reason_words",
+    "cell",
+    "severity",
+    "energy",
+];
 
-/// The events of recordings, one to a line; severity and energy are empty where there is no score. `told` adds the
-/// sentences of `explain`.
-pub fn events(s: &Settings, answers: &[(String, Vec<Answer>)], told: bool) -> String {
-    let mut out = HEAD.to_string() + if told { ",launch,peak,landing,score\n" } else { "\n" };
-    for (name, answer, at, event) in answers
-        .iter()
-        .flat_map(|(name, parts)| parts.iter().map(move |part| (name, part)))
-        .flat_map(|(name, part)| part.events.iter().enumerate().map(move |(at, e)| (name, part, at, e)))
-    {
-        let class = if event.kind == 1 { words::class(event.class) } else { "" };
-        let mut fields = vec![name.clone()];
-        fields.extend([answer.part, answer.first_half, at + 1].map(|n| n.to_string()));
-        fields.extend([event.kind.to_string(), words::kind(event.kind).into()]);
-        let numbers = [event.start, event.end, event.seen, event.extreme, event.retained, event.shortfall];
-        fields.extend(numbers.map(|n| n.to_string()));
-        fields.extend([event.class.to_string(), class.into()]);
-        fields.extend([event.reason.to_string(), words::reason(event.reason).into(), event.cell.to_string()]);
-        let score = event.score.map(|score| [score.severity, score.energy].map(|x| x.to_string()));
-        fields.extend(score.unwrap_or_default());
-        if told {
-            fields.extend(text::told(s, answer, event));
+/// The events of recordings, one to a line, each with its recording's half-cycles; severity and energy are empty where
+/// there is no score. A recording without events has one line too, of kind 0: what nobody saw must not vanish. `told`
+/// adds the sentences of `explain`.
+pub fn events(s: &Settings, answers: &[Answer], told: bool) -> String {
+    let mut head = [&RECORDING[..], &EVENT].concat();
+    if told {
+        head.extend(explain::LABELS);
+    }
+    let mut out = line(&head.iter().map(|name| name.to_string()).collect::<Vec<_>>());
+    for answer in answers {
+        let c = answer.counts();
+        let mut recording = vec![answer.name.clone()];
+        recording.extend([c.total, c.healthy, c.disturbed, c.unknown].map(|count| count.to_string()));
+        let mut row = |mut fields: Vec<String>| {
+            fields.resize(head.len() - recording.len(), String::new());
+            out += &line(&[&recording[..], &fields].concat());
+        };
+        for (part, number, event) in answer.events() {
+            let mut fields = fields(s, part, number, event);
+            if told {
+                fields.extend(explain::told(s, answer, part, event));
+            }
+            row(fields);
         }
-        out += &line(&fields);
+        if answer.events().next().is_none() {
+            row(["1", "0", "0", "0", "none"].map(String::from).to_vec());
+        }
     }
     out
 }
 
+fn fields(s: &Settings, part: &Part, number: usize, event: &Found) -> Vec<String> {
+    let class = if event.kind == 1 { words::class(event.class) } else { "" };
+    let mut fields = [part.number as u64, part.first_half, number as u64, event.kind].map(|n| n.to_string()).to_vec();
+    fields.extend([words::kind(event.kind).into(), event.start.to_string(), event.end.to_string()]);
+    fields.push(words::exact_seconds(event.start, s.f).to_string());
+    let numbers = [event.seen, event.extreme, event.retained, event.shortfall, event.class];
+    fields.extend(numbers.map(|n| n.to_string()));
+    fields.extend([class.into(), event.reason.to_string(), words::reason(event.reason).into(), event.cell.to_string()]);
+    let score = event.score.map(|score| [score.severity, score.energy].map(|x| x.to_string()));
+    fields.extend(score.unwrap_or_default());
+    fields
+}
+
 /// A table's numbers by name.
 pub fn table(table: &Table) -> String {
-    let rows = site::names().into_iter().zip(table).map(|(name, word)| line(&[name, word.to_string()]));
+    let rows = table::names().into_iter().zip(table).map(|(name, word)| line(&[name, word.to_string()]));
     "name,value\n".to_string() + &rows.collect::<String>()
 }

@@ -1,7 +1,8 @@
 //! JSON, as much of it as the program writes, and the answers in it.
-use crate::{
-    answer::{self, Answer, Found},
-    text, words,
+use super::{explain, words};
+use crate::answered::{
+    table::{self, Counts, SETTINGS},
+    Answer, Cut, Found, Part, Split,
 };
 use host::{Score, Settings, Table};
 use std::fmt::{self, Display, Formatter, Write};
@@ -66,22 +67,47 @@ fn quoted(text: &str, out: &mut Formatter) -> fmt::Result {
     out.write_char('"')
 }
 
-/// A recording's answers: its parts with their half-cycles and events. `told` adds the sentences of `explain`.
-pub fn recording(s: &Settings, name: &str, answers: &[Answer], told: bool) -> Json {
-    let part = |answer: &Answer| {
-        let events = answer.events.iter().map(|found| event(s, answer, found, told));
+/// A recording's answers: its half-cycles, its cuts, its parts with their events. `told` adds the sentences of `explain`.
+pub fn recording(s: &Settings, answer: &Answer, told: bool) -> Json {
+    let part = |part: &Part| {
+        let events = part.events.iter().map(|found| event(s, answer, part, found, told));
         Json::Object(vec![
-            ("part", Json::whole(answer.part as u64)),
-            ("first_half_cycle", Json::whole(answer.first_half as u64)),
-            ("half_cycles", halves(&answer.own)),
+            ("part", Json::whole(part.number as u64)),
+            ("first_half_cycle", Json::whole(part.first_half)),
+            ("half_cycles", halves(&table::counts(&part.own))),
             ("events", Json::List(events.collect())),
         ])
     };
-    let parts = answers.iter().map(part).collect();
-    Json::Object(vec![("recording", Json::text(name)), ("parts", Json::List(parts))])
+    Json::Object(vec![
+        ("recording", Json::text(&answer.name)),
+        ("half_cycles", halves(&answer.counts())),
+        ("cuts", cuts(s, answer)),
+        ("parts", Json::List(answer.parts.iter().map(part).collect())),
+    ])
 }
 
-fn event(s: &Settings, answer: &Answer, e: &Found, told: bool) -> Json {
+/// Where a recording was cut, and the events that this splits; none where a cut lies between events.
+fn cuts(s: &Settings, answer: &Answer) -> Json {
+    let place = |k: Option<u64>| k.map_or(Json::Null, Json::whole);
+    let split = |split: &Split| {
+        Json::Object(vec![
+            ("kind", Json::whole(split.kind)),
+            ("kind_word", Json::text(words::kind(split.kind))),
+            ("start", place(split.start)),
+            ("end", place(split.end)),
+        ])
+    };
+    let cut = |cut: &Cut| {
+        Json::Object(vec![
+            ("half_cycle", Json::whole(cut.at)),
+            ("seconds", Json::float(words::exact_seconds(cut.at, s.f))),
+            ("splits", Json::List(cut.splits.iter().map(split).collect())),
+        ])
+    };
+    Json::List(answer.cuts.iter().map(cut).collect())
+}
+
+fn event(s: &Settings, answer: &Answer, part: &Part, e: &Found, told: bool) -> Json {
     let class = if e.kind == 1 { Json::text(words::class(e.class)) } else { Json::Null };
     let float = |of: fn(Score) -> f64| e.score.map_or(Json::Null, |score| Json::float(of(score)));
     let mut fields = vec![
@@ -89,6 +115,7 @@ fn event(s: &Settings, answer: &Answer, e: &Found, told: bool) -> Json {
         ("kind_word", Json::text(words::kind(e.kind))),
         ("start", Json::whole(e.start)),
         ("end", Json::whole(e.end)),
+        ("start_seconds", Json::float(words::exact_seconds(e.start, s.f))),
         ("seen", Json::whole(e.seen)),
         ("extreme", Json::whole(e.extreme)),
         ("retained", Json::whole(e.retained)),
@@ -102,14 +129,13 @@ fn event(s: &Settings, answer: &Answer, e: &Found, told: bool) -> Json {
         ("energy", float(|score| score.energy)),
     ];
     if told {
-        let sentences = text::told(s, answer, e).map(|sentence| Json::text(&sentence));
-        fields.extend(["launch", "peak", "landing", "score"].into_iter().zip(sentences));
+        let sentences = explain::told(s, answer, part, e).map(|sentence| Json::text(&sentence));
+        fields.extend(explain::LABELS.into_iter().zip(sentences));
     }
     Json::Object(fields)
 }
 
-fn halves(table: &Table) -> Json {
-    let c = answer::counts(table);
+fn halves(c: &Counts) -> Json {
     Json::Object(vec![
         ("total", Json::whole(c.total)),
         ("healthy", Json::whole(c.healthy)),
@@ -119,25 +145,18 @@ fn halves(table: &Table) -> Json {
 }
 
 pub fn settings(s: &Settings) -> Json {
-    Json::Object(vec![
-        ("n", Json::whole(s.n)),
-        ("r", Json::whole(s.r)),
-        ("f", Json::whole(s.f)),
-        ("sag", Json::whole(s.sag)),
-        ("interruption", Json::whole(s.interruption)),
-        ("swell", Json::whole(s.swell)),
-        ("hysteresis", Json::whole(s.hysteresis)),
-    ])
+    let numbers = [s.n, s.r, s.f, s.sag, s.interruption, s.swell, s.hysteresis];
+    Json::Object(SETTINGS.into_iter().zip(numbers.map(Json::whole)).collect())
 }
 
 /// A table, its cells as five rows of eight.
 pub fn table(table: &Table) -> Json {
-    let (s, c) = (answer::settings(table), answer::counts(table));
+    let (s, c) = (table::settings(table), table::counts(table));
     let row = |counts: &[u64]| Json::List(counts.iter().map(|count| Json::whole(*count)).collect());
     Json::Object(vec![
         ("settings", settings(&s)),
-        ("half_cycles", halves(table)),
-        ("cells", Json::List(answer::cells(table).chunks(8).map(row).collect())),
+        ("half_cycles", halves(&c)),
+        ("cells", Json::List(table::cells(table).chunks(8).map(row).collect())),
         ("unplaced", Json::whole(c.unplaced)),
         ("sags", Json::whole(c.sags)),
         ("interruptions", Json::whole(c.interruptions)),
@@ -148,9 +167,13 @@ pub fn table(table: &Table) -> Json {
     ])
 }
 
-/// What each recording added.
-pub fn added(added: &[(String, Table)]) -> Json {
-    let one =
-        |(name, own): &(String, Table)| Json::Object(vec![("recording", Json::text(name)), ("table", table(own))]);
-    Json::List(added.iter().map(one).collect())
+/// What each recording, or each part of one, added, and where it was cut.
+pub fn added(s: &Settings, added: &[Answer]) -> Vec<(&'static str, Json)> {
+    let one = |answer: &Answer, part: &Part| {
+        Json::Object(vec![("recording", Json::text(&answer.named(part))), ("table", table(&part.own))])
+    };
+    let parts = added.iter().flat_map(|answer| answer.parts.iter().map(move |part| one(answer, part)));
+    let cut = added.iter().filter(|answer| !answer.cuts.is_empty());
+    let cut = cut.map(|a| Json::Object(vec![("recording", Json::text(&a.name)), ("cuts", cuts(s, a))]));
+    vec![("added", Json::List(parts.collect())), ("cut", Json::List(cut.collect()))]
 }

@@ -1,13 +1,13 @@
-//! Answers as aligned text and as sentences, for people.
-use crate::{
-    answer::{self, Answer, Found},
-    term::Paint,
-    words,
+//! Answers as aligned text, for people.
+use super::{explain, paint::Paint, words};
+use crate::answered::{
+    table::{self, Counts},
+    Answer, Cut, Found, Part,
 };
 use host::{Settings, Table};
 
 /// Columns, each as wide as its widest field: numbers to the right, the columns of `left` to the left.
-fn columns(head: &[&str], rows: &[Vec<String>], left: &[usize], paint: &Paint) -> String {
+pub fn columns(head: &[&str], rows: &[Vec<String>], left: &[usize], paint: &Paint) -> String {
     let width = |at: usize| {
         let fields = rows.iter().filter_map(|row| row.get(at)).map(|field| field.chars().count());
         fields.max().unwrap_or(0).max(head[at].chars().count())
@@ -29,39 +29,58 @@ fn columns(head: &[&str], rows: &[Vec<String>], left: &[usize], paint: &Paint) -
     out
 }
 
-/// One line about a recording: its half-cycles and how many events it has.
-pub fn heading(s: &Settings, answer: &Answer, paint: &Paint) -> String {
-    let c = answer::counts(&answer.own);
-    format!(
-        "{}: {} ({}): {} healthy, {} disturbed, {} unknown; {}\n",
-        paint.bold(&answer.name),
+/// One line about a recording or a part of it, its half-cycles and how many events it has, and a second one where there
+/// is no event and not everything was seen.
+fn heading(s: &Settings, answer: &Answer, part: &Part, paint: &Paint) -> String {
+    let c = table::counts(&part.own);
+    let from = match answer.parts.len() {
+        1 => String::new(),
+        _ => format!(", from half-cycle {} ({}) on", part.first_half, words::seconds(part.first_half, s.f)),
+    };
+    let mut out = format!(
+        "{}: {} ({}){from}: {} healthy, {} disturbed, {} unknown; {}\n",
+        paint.bold(&answer.named(part)),
         words::count(c.total, "half-cycle"),
         words::seconds(c.total, s.f),
         c.healthy,
         c.disturbed,
         c.unknown,
-        words::count(answer.events.len() as u64, "event"),
-    )
+        words::count(part.events.len() as u64, "event"),
+    );
+    if part.events.is_empty() && c.unknown > 0 {
+        out += &format!("  {}\n", words::no_event(&c));
+    }
+    out
 }
 
 /// What cutting did, for a recording in more than one part.
-pub fn cut_note(answers: &[Answer]) -> String {
-    if answers.len() < 2 {
+pub fn cut_note(s: &Settings, answer: &Answer) -> String {
+    if answer.cuts.is_empty() {
         return String::new();
     }
-    format!(
-        "Cut into {} parts. Half-cycles are numbered from 0 in each part. An event that reaches over a cut is told as two,\n\
-         and an event that begins or ends at a cut has that end unseen: such sags have no score and are unplaced. A sag that\n\
-         is between the threshold and its hysteresis at a cut ends there.\n",
-        answers.len()
-    )
+    let place = |cut: &Cut| format!("half-cycle {} ({})", cut.at, words::seconds(cut.at, s.f));
+    let (clean, forced): (Vec<_>, Vec<_>) = answer.cuts.iter().partition(|cut| cut.splits.is_empty());
+    let mut said = format!(
+        "{} is cut into {} parts. Half-cycles and times are those of the whole recording.",
+        answer.name,
+        answer.parts.len()
+    );
+    if !clean.is_empty() {
+        let places: Vec<String> = clean.iter().map(|cut| place(cut)).collect();
+        said += &format!(" No event reaches over the cut at {}.", places.join(", "));
+    }
+    for cut in forced {
+        said += &format!(" {}", words::splits(cut, &place(cut)));
+    }
+    wrapped(&said, "") + "\n"
 }
 
-const LIST: [&str; 13] = [
+const LIST: [&str; 14] = [
     "no",
     "kind",
     "start",
     "end",
+    "at",
     "lasted",
     "seen",
     "extreme",
@@ -74,16 +93,13 @@ const LIST: [&str; 13] = [
 ];
 
 /// The events of a recording.
-pub fn list(s: &Settings, answers: &[Answer], paint: &Paint) -> String {
-    let mut out = cut_note(answers);
-    for answer in answers {
-        out += &heading(s, answer, paint);
-        if answer.of > 1 {
-            out += &format!("  from half-cycle {} of the recording on\n", answer.first_half);
-        }
-        if !answer.events.is_empty() {
-            let rows: Vec<_> = answer.events.iter().enumerate().map(|(at, e)| row(s, at, e)).collect();
-            out += &columns(&LIST, &rows, &[1, 5, 9, 12], paint);
+pub fn list(s: &Settings, answer: &Answer, paint: &Paint) -> String {
+    let mut out = cut_note(s, answer);
+    for part in &answer.parts {
+        out += &heading(s, answer, part, paint);
+        if !part.events.is_empty() {
+            let rows: Vec<_> = part.events.iter().enumerate().map(|(at, e)| row(s, at, e)).collect();
+            out += &columns(&LIST, &rows, &[1, 6, 10, 13], paint);
         }
     }
     out
@@ -91,8 +107,9 @@ pub fn list(s: &Settings, answers: &[Answer], paint: &Paint) -> String {
 
 fn row(s: &Settings, at: usize, event: &Found) -> Vec<String> {
     let mut row = vec![(at + 1).to_string(), words::kind(event.kind).into()];
-    row.extend([event.start.to_string(), event.end.to_string(), words::seconds(event.halves(), s.f)]);
-    row.extend([words::seen(event.seen).into(), event.extreme.to_string(), event.retained.to_string()]);
+    row.extend([event.start.to_string(), event.end.to_string(), words::seconds(event.start, s.f)]);
+    row.extend([words::seconds(event.halves(), s.f), words::seen(event.seen).into()]);
+    row.extend([event.extreme.to_string(), event.retained.to_string()]);
     row.extend(match event.kind {
         1 => [event.shortfall.to_string(), words::class(event.class).into()],
         _ => ["-".into(), "-".into()],
@@ -104,9 +121,26 @@ fn row(s: &Settings, at: usize, event: &Found) -> Vec<String> {
     row
 }
 
+/// The events of a recording in words.
+pub fn explained(s: &Settings, answer: &Answer, paint: &Paint) -> String {
+    let mut out = cut_note(s, answer);
+    for part in &answer.parts {
+        out += &heading(s, answer, part, paint);
+        for (at, event) in part.events.iter().enumerate() {
+            let title = format!("event {}: {}", at + 1, words::kind(event.kind));
+            out += &format!("\n  {}\n", paint.bold(&title));
+            for (label, sentence) in explain::LABELS.iter().zip(explain::told(s, answer, part, event)) {
+                let sentence = wrapped(&sentence, "             ");
+                out += &format!("    {label:<8} {}\n", sentence.trim_start());
+            }
+        }
+    }
+    out
+}
+
 /// A table: half-cycles, events, cells and shortfall.
 pub fn table(name: &str, table: &Table, paint: &Paint) -> String {
-    let (s, c) = (answer::settings(table), answer::counts(table));
+    let (s, c) = (table::settings(table), table::counts(table));
     let mut out = format!("{}: {}\n", paint.bold(name), words::settings(&s));
     let lines = [
         ("half-cycles", format!("{} ({})", c.total, words::seconds(c.total, s.f))),
@@ -125,12 +159,12 @@ pub fn table(name: &str, table: &Table, paint: &Paint) -> String {
         let counts = counts.iter().map(|count| if *count == 0 { ".".into() } else { count.to_string() });
         std::iter::once(words::ROWS[row].to_string()).chain(counts).collect()
     };
-    let rows: Vec<Vec<String>> = answer::cells(table).chunks(8).enumerate().map(depth).collect();
+    let rows: Vec<Vec<String>> = table::cells(table).chunks(8).enumerate().map(depth).collect();
     out + "\n" + &columns(&head, &rows, &[0], paint)
 }
 
 /// What each recording added.
-pub fn added(s: &Settings, added: &[(String, Table)], paint: &Paint) -> String {
+pub fn added(s: &Settings, added: &[Answer], paint: &Paint) -> String {
     let head = [
         "added",
         "half-cycles",
@@ -143,131 +177,32 @@ pub fn added(s: &Settings, added: &[(String, Table)], paint: &Paint) -> String {
         "interruptions",
         "swells",
     ];
-    let row = |(name, table): &(String, Table)| {
-        let c = answer::counts(table);
-        let mut row = vec![name.clone(), c.total.to_string(), words::seconds(c.total, s.f)];
+    let row = |answer: &Answer, part: &Part| {
+        let c: Counts = table::counts(&part.own);
+        let mut row = vec![answer.named(part), c.total.to_string(), words::seconds(c.total, s.f)];
         let counts = [c.healthy, c.disturbed, c.unknown, c.sags, c.unplaced, c.interruptions, c.swells];
         row.extend(counts.map(|count| count.to_string()));
         row
     };
-    columns(&head, &added.iter().map(row).collect::<Vec<_>>(), &[0], paint)
+    let rows: Vec<_> = added.iter().flat_map(|a| a.parts.iter().map(move |part| row(a, part))).collect();
+    let notes: String = added.iter().map(|answer| cut_note(s, answer)).collect();
+    notes + &columns(&head, &rows, &[0], paint)
 }
 
-/// The events of a recording in words.
-pub fn explain(s: &Settings, answers: &[Answer], paint: &Paint) -> String {
-    let mut out = cut_note(answers);
-    for answer in answers {
-        out += &heading(s, answer, paint);
-        for (at, event) in answer.events.iter().enumerate() {
-            let title = format!("event {}: {}", at + 1, words::kind(event.kind));
-            out += &format!("\n  {}\n", paint.bold(&title));
-            for (label, sentence) in ["launch", "peak", "landing", "score"].iter().zip(told(s, answer, event)) {
-                let sentence = wrapped(&sentence, "             ");
-                out += &format!("    {label:<8} {}\n", sentence.trim_start());
-            }
-        }
-    }
-    out
-}
-
-/// An event's launch, peak, landing and score, a sentence each.
-pub fn told(s: &Settings, answer: &Answer, event: &Found) -> [String; 4] {
-    [launch(s, answer, event), peak(s, event), landing(s, answer, event), score(s, event)]
-}
-
-/// What the samples are that the library was given.
-fn run(answer: &Answer) -> &'static str {
-    if answer.of > 1 {
-        "part"
-    } else {
-        "recording"
-    }
-}
-
-fn launch(s: &Settings, answer: &Answer, event: &Found) -> String {
-    let what = match event.kind {
-        1 => format!("a channel is below {} % of R", s.sag),
-        2 => format!("all channels are below {} % of R", s.interruption),
-        _ => format!("a channel is above {} % of R", s.swell),
-    };
-    let before = match (event.seen & 1, event.start) {
-        (1, start) => format!("half-cycle {} before it is known, so the start is seen", start - 1),
-        (_, 0) => format!("the {} begins there, so the start is unseen and may lie earlier", run(answer)),
-        (_, start) => format!("half-cycle {} before it is unknown, so the start is unseen", start - 1),
-    };
-    let at = words::seconds(event.start, s.f);
-    format!("half-cycle {} (at {at}): {what}; {before}.", event.start)
-}
-
-fn peak(s: &Settings, event: &Found) -> String {
-    let at = event.peak.map_or(String::new(), |k| format!("half-cycle {k} (at {}): ", words::seconds(k, s.f)));
-    let which = if event.kind == 3 { "largest" } else { "smallest" };
-    let retained = format!("{}.{} % of R, rounded down", event.retained / 10, event.retained % 10);
-    let class = match event.kind {
-        1 => format!("; type {}: {}", words::class(event.class), words::class_told(event.class)),
-        _ => String::new(),
-    };
-    format!("{at}the {which} sum of squares, {}; retained {} = {retained}{class}.", event.extreme, event.retained)
-}
-
-fn landing(s: &Settings, answer: &Answer, event: &Found) -> String {
-    let what = match event.kind {
-        1 => format!(
-            "all channels are back at {} % or more ({} + hysteresis {})",
-            s.sag + s.hysteresis,
-            s.sag,
-            s.hysteresis
-        ),
-        2 => format!("some channel is back at {} % or more", s.interruption + s.hysteresis),
-        _ => format!(
-            "all channels are back at {} % or less ({} - hysteresis {})",
-            s.swell - s.hysteresis,
-            s.swell,
-            s.hysteresis
-        ),
-    };
-    let end = event.end;
-    let how = match event.seen & 2 {
-        2 => format!("{what}, and it is known, so the end is seen"),
-        _ if end == answer::counts(&answer.own).total => {
-            format!("the {} ends there, so the end is unseen and may lie later", run(answer))
-        }
-        _ => "it is unknown, so the end is unseen and may lie later".into(),
-    };
-    let lasted = words::seconds(event.halves(), s.f);
-    format!(
-        "half-cycle {end} (at {}): {how}. Lasted {} = {lasted}.",
-        words::seconds(end, s.f),
-        words::count(event.halves(), "half-cycle")
-    )
-}
-
-fn score(s: &Settings, event: &Found) -> String {
-    let shortfall = format!("shortfall {}", event.shortfall);
-    match event.score {
-        Some(score) => format!(
-            "severity {:.3}, energy {:.3} s ({shortfall} / (N x R x R x 2f)); cell {}: {}.",
-            score.severity,
-            score.energy,
-            event.cell,
-            words::cell(event.cell)
-        ),
-        None if event.kind == 1 => format!(
-            "none, reason {}: {}; what happened there is not known, so neither severity nor cell is given ({shortfall} = {} s is what was seen).",
-            event.reason,
-            words::reason(event.reason),
-            words::shortfall_seconds(s, event.shortfall)
-        ),
-        None => format!("none, reason {}: {}; only sags are scored.", event.reason, words::reason(event.reason)),
-    }
-}
-
-/// A paragraph in lines of up to a hundred characters, each set in.
+/// A paragraph in lines of up to a hundred characters, each set in. A number and its unit stay together.
 pub fn wrapped(paragraph: &str, indent: &str) -> String {
-    let mut lines: Vec<String> = Vec::new();
+    let unit = |word: &str| word.starts_with('%') || word.trim_end_matches(['.', ',', ';', ':', ')']) == "s";
+    let mut together: Vec<String> = Vec::new();
     for word in paragraph.split_whitespace() {
+        match together.last_mut() {
+            Some(number) if unit(word) => *number += &format!(" {word}"),
+            _ => together.push(word.to_string()),
+        }
+    }
+    let mut lines: Vec<String> = Vec::new();
+    for word in together {
         match lines.last_mut() {
-            Some(line) if line.len() + word.len() < 100 => *line += &format!(" {word}"),
+            Some(line) if line.chars().count() + word.chars().count() < 100 => *line += &format!(" {word}"),
             _ => lines.push(format!("{indent}{word}")),
         }
     }

@@ -1,19 +1,26 @@
 //! The rules' words for numbers: refusals, reasons, kinds, types, rows and columns, and how half-cycles read as seconds.
+use crate::answered::{
+    table::{Counts, SETTINGS},
+    Cut, Split,
+};
 use host::{Refused, Settings};
 
-/// A setting: its option, what it is, what is allowed.
-pub const SETTINGS: [(&str, &str, &str); 7] = [
-    ("n", "N, samples per cycle per channel", "even, 8 to 512"),
-    ("r", "R, reference rms, in sample units", "1,000 to 50,000"),
-    ("f", "f, nominal frequency", "50 or 60"),
-    ("sag", "sag threshold, percent of R", "50 to 95"),
-    ("interruption", "interruption threshold", "1 to 20"),
-    ("swell", "swell threshold", "105 to 150"),
-    ("hysteresis", "hysteresis", "0 to 5"),
+/// What each setting is, and what is allowed.
+const MEANINGS: [(&str, &str); 7] = [
+    ("N, samples per cycle per channel", "even, 8 to 512"),
+    ("R, reference rms, in sample units", "1,000 to 50,000"),
+    ("f, nominal frequency", "50 or 60"),
+    ("sag threshold, percent of R", "50 to 95"),
+    ("interruption threshold", "1 to 20"),
+    ("swell threshold", "105 to 150"),
+    ("hysteresis", "0 to 5"),
 ];
 
 /// The rows of the table, by the extreme.
 pub const ROWS: [&str; 5] = ["at most 10 %", "10 to 40 %", "40 to 70 %", "70 to 85 %", "above 85 %"];
+
+/// The borders between the rows, in percent of R; a voltage on a border belongs to the deeper row.
+pub const ROW_BORDERS: [u64; 4] = [10, 40, 70, 85];
 
 /// The columns of the table, by duration; a duration on a border belongs to the longer column.
 pub const COLUMNS: [&str; 8] =
@@ -36,9 +43,14 @@ pub fn refusal(refused: &Refused) -> String {
     }
 }
 
+/// A refusal with its number and place.
+pub fn turned_away(refused: &Refused) -> String {
+    format!("refusal {}, place {}: {}", refused.number, refused.place, refusal(refused))
+}
+
 fn outside(place: u64) -> String {
-    match place.checked_sub(1).and_then(|at| SETTINGS.get(at as usize)) {
-        Some((option, name, allowed)) => {
+    match (1..).zip(SETTINGS.iter().zip(MEANINGS)).find(|(number, _)| *number == place) {
+        Some((_, (option, (name, allowed)))) => {
             format!("a setting is outside its range: No. {place}, {name} (--{option}), allowed {allowed}")
         }
         None => "a setting is outside its range".into(),
@@ -83,37 +95,49 @@ pub fn class(number: u64) -> &'static str {
     ["A", "Da", "Db", "Dc", "Ca", "Cb", "Cc"].get(number as usize).copied().unwrap_or("?")
 }
 
-/// What a sag type tells.
-pub fn class_told(number: u64) -> &'static str {
-    match number {
-        0 => "the channels drop alike",
-        1 => "the main drop is in a",
-        2 => "the main drop is in b",
-        3 => "the main drop is in c",
-        4 => "the main drop is between b and c",
-        5 => "the main drop is between a and c",
-        6 => "the main drop is between a and b",
-        _ => "unnamed",
-    }
+/// What a sag type tells. It compares six voltages and says which is smallest; which channel dropped is another question.
+pub fn class_told(number: u64) -> String {
+    let six = "each channel against the mean of the three, and each two channels against each other over root 3";
+    let smallest = match number {
+        0 => return format!("of six voltages ({six}) the smallest is at least nine tenths of the largest"),
+        1 => "a against the mean",
+        2 => "b against the mean",
+        3 => "c against the mean",
+        4 => "b against c",
+        5 => "c against a",
+        6 => "a against b",
+        _ => return "unnamed".into(),
+    };
+    format!("of six voltages ({six}) the smallest is {smallest}")
 }
 
 /// A cell's row and column in words.
 pub fn cell(number: u64) -> String {
-    let (row, column) = (number / 8, number % 8);
-    match ROWS.get(row as usize) {
-        Some(depth) => format!("row {row} ({depth}), column {column} ({})", COLUMNS[column as usize]),
-        None => "no cell".into(),
-    }
+    format!("{}, {}", row(number), column(number))
+}
+
+pub fn row(cell: u64) -> String {
+    ROWS.get(cell as usize / 8).map_or("no row".into(), |depth| format!("row {} ({depth})", cell / 8))
+}
+
+pub fn column(cell: u64) -> String {
+    let column = cell as usize % 8;
+    format!("column {column} ({})", COLUMNS[column])
 }
 
 /// Half-cycles as seconds: half-cycles / 2f.
 pub fn seconds(halves: u64, f: u64) -> String {
-    format!("{:.3} s", halves as f64 / (2 * f) as f64)
+    format!("{:.3} s", exact_seconds(halves, f))
+}
+
+/// The same as a number, for programs.
+pub fn exact_seconds(halves: u64, f: u64) -> f64 {
+    halves as f64 / (2 * f) as f64
 }
 
 /// A shortfall as seconds: whole milliseconds, rounded down, of 1000 x shortfall / (N x R x R x 2f).
 pub fn shortfall_seconds(s: &Settings, shortfall: u64) -> String {
-    let second = u128::from(s.n) * u128::from(s.r) * u128::from(s.r) * u128::from(2 * s.f);
+    let second = reference(s) * u128::from(2 * s.f);
     let ms = 1000 * u128::from(shortfall) / second.max(1);
     format!("{}.{:03}", ms / 1000, ms % 1000)
 }
@@ -129,4 +153,70 @@ pub fn settings(s: &Settings) -> String {
 /// `1 sag`, `2 sags`.
 pub fn count(number: u64, one: &str) -> String {
     format!("{number} {one}{}", if number == 1 { "" } else { "s" })
+}
+
+/// `a`, `a and b`, `a, b and c`.
+pub fn and(words: &[&str]) -> String {
+    match words {
+        [] => String::new(),
+        [one] => one.to_string(),
+        [first @ .., last] => format!("{} and {last}", first.join(", ")),
+    }
+}
+
+/// The rms value of a sum of squares in percent of R. A value that is not on a border is never shown as if it were: it gets
+/// as many digits as tell the two apart.
+pub fn percent(s: &Settings, sum: u64, borders: &[u64]) -> String {
+    let value = 100.0 * (sum as f64 / s.n as f64).sqrt() / s.r as f64;
+    let looks_like = |digits: usize, border: u64| format!("{value:.digits$}") == format!("{border}.{:0<digits$}", "");
+    let off = |border: &&u64| u128::from(**border).pow(2) * reference(s) != 10_000 * u128::from(sum);
+    let misleads = |digits: usize| borders.iter().filter(off).any(|border| looks_like(digits, *border));
+    let digits = (1..12).find(|digits| !misleads(*digits)).unwrap_or(12);
+    format!("{value:.digits$} %")
+}
+
+/// N x R x R.
+pub fn reference(s: &Settings) -> u128 {
+    u128::from(s.n) * u128::from(s.r) * u128::from(s.r)
+}
+
+/// A time by the clock of the world, from seconds since 1970: `2026-11-15 09:30 UTC`.
+pub fn date(seconds: u64) -> String {
+    let (days, minutes) = (seconds / 86_400, seconds % 86_400 / 60);
+    // Years that begin in March, so that the day of a leap year comes last; eras of 400 of them.
+    let (era, day) = ((days + 719_468) / 146_097, (days + 719_468) % 146_097);
+    let year = (day - day / 1_460 + day / 36_524 - day / 146_096) / 365;
+    let day = day - (365 * year + year / 4 - year / 100);
+    let month = (5 * day + 2) / 153;
+    let (day, month) = (day - (153 * month + 2) / 5 + 1, if month < 10 { month + 3 } else { month - 9 });
+    let year = 400 * era + year + u64::from(month < 3);
+    format!("{year:04}-{month:02}-{day:02} {:02}:{:02} UTC", minutes / 60, minutes % 60)
+}
+
+/// What to say of a recording without an event of which not everything was seen.
+pub fn no_event(c: &Counts) -> String {
+    if c.unknown == c.total {
+        let all =
+            if c.total == 1 { "its one half-cycle is".into() } else { format!("all {} half-cycles are", c.total) };
+        return format!("Nobody saw it: {all} unknown. That no event is listed says nothing about the voltage.");
+    }
+    let seen = count(c.total - c.unknown, "half-cycle");
+    let unseen = if c.unknown == 1 { "1 is".into() } else { format!("{} are", c.unknown) };
+    format!("No event in the {seen} that somebody saw; {unseen} unknown.")
+}
+
+/// The events that a cut splits, by name.
+pub fn splits(cut: &Cut, place: &str) -> String {
+    let named = |split: &Split| match (split.start, split.end) {
+        (Some(start), Some(end)) => format!("the {} from half-cycle {start} to {end}", kind(split.kind)),
+        (Some(start), None) => format!("the {} from half-cycle {start} on", kind(split.kind)),
+        (None, end) => format!("the {} from there to half-cycle {}", kind(split.kind), end.unwrap_or(cut.at)),
+    };
+    let named: Vec<String> = cut.splits.iter().map(named).collect();
+    format!(
+        "No place between events was left for the cut at {place}: it splits {}. What is told of these has an unseen end \
+         there, so it has no score and is unplaced, and what lies between the threshold and its hysteresis just after the \
+         cut is told as no event.",
+        and(&named.iter().map(String::as_str).collect::<Vec<_>>())
+    )
 }

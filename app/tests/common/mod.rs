@@ -111,18 +111,37 @@ impl Folder {
     }
 }
 
-/// The events of a list in CSV.
+/// The events of a list in CSV; the rows of recordings without events are left out.
 pub fn listed(csv: &str) -> Vec<(Vec<u64>, String)> {
-    let mut lines = csv.lines();
-    let head: Vec<&str> = lines.next().unwrap().split(',').collect();
     let names = ["kind", "start", "end", "seen", "extreme", "retained", "shortfall", "type", "reason", "cell"];
-    let event = |line: &str| {
-        let fields: Vec<&str> = line.split(',').collect();
-        let field = |name: &str| fields[head.iter().position(|n| *n == name).unwrap()];
-        let numbers = names.iter().map(|name| field(name).parse().unwrap()).collect();
-        (numbers, format!("{} {}", field("severity"), field("energy")))
+    let event = |row: Row| {
+        let numbers = names.iter().map(|name| row.number(name)).collect();
+        (numbers, format!("{} {}", row.field("severity"), row.field("energy")))
     };
-    lines.map(event).collect()
+    rows(csv).into_iter().filter(|row| row.field("kind") != "0").map(event).collect()
+}
+
+/// A row of a CSV with a head, none of whose fields is quoted.
+pub struct Row {
+    head: Vec<String>,
+    fields: Vec<String>,
+}
+
+impl Row {
+    pub fn field(&self, name: &str) -> &str {
+        &self.fields[self.head.iter().position(|n| n == name).unwrap_or_else(|| panic!("no {name}"))]
+    }
+
+    pub fn number(&self, name: &str) -> u64 {
+        self.field(name).parse().unwrap_or_else(|_| panic!("{name}: {:?}", self.fields))
+    }
+}
+
+pub fn rows(csv: &str) -> Vec<Row> {
+    let fields = |line: &str| line.split(',').map(String::from).collect::<Vec<_>>();
+    let mut lines = csv.lines();
+    let head = fields(lines.next().unwrap());
+    lines.map(|line| Row { head: head.clone(), fields: fields(line) }).collect()
 }
 
 /// Blocks of four equal samples, the channels equal: half a cycle each at N 8.

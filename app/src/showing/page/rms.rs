@@ -2,8 +2,8 @@
 //! The curves are a picture drawn from the samples; the events, their peaks and what is unknown are the library's.
 use super::svg::{at, esc, line, rect, step, text, whole, wide};
 use crate::{
-    answer::{self, Answer, Found},
-    words,
+    answered::{Answer, Curve, Found, Part},
+    showing::words,
 };
 use host::Settings;
 
@@ -14,19 +14,20 @@ const TOP: f64 = 24.0;
 const HEIGHT: f64 = 220.0;
 const LANE: f64 = 22.0;
 /// Columns of a long recording's curve: each is drawn from its least to its greatest value.
-const COLUMNS: usize = (WIDTH - LEFT - RIGHT) as usize;
+pub const COLUMNS: usize = (WIDTH - LEFT - RIGHT) as usize;
 /// More events than this are drawn as plain bars, without ends, numbers and peaks: they are too close to tell apart.
 const CROWD: usize = 200;
 
-/// Where half-cycles and percents lie in the drawing.
+/// Where half-cycles of the whole recording and percents lie in the drawing.
 struct Frame {
+    first: f64,
     halves: f64,
     top: f64,
 }
 
 impl Frame {
     fn x(&self, k: f64) -> f64 {
-        LEFT + (WIDTH - LEFT - RIGHT) * k / self.halves
+        LEFT + (WIDTH - LEFT - RIGHT) * (k - self.first) / self.halves
     }
 
     fn y(&self, percent: f64) -> f64 {
@@ -34,67 +35,32 @@ impl Frame {
     }
 }
 
-/// The least and the greatest percent of each column, none where all of it is unknown.
-type Curve = Vec<Option<(f64, f64)>>;
-
 /// The whole drawing.
-pub fn chart(s: &Settings, samples: &[i32], answer: &Answer, unknown: &[(u64, u64)]) -> String {
-    let halves = answer::counts(&answer.own).total;
-    let curves = curves(s, samples, halves as usize, unknown);
-    let highest = curves.iter().flatten().flatten().map(|(_, most)| *most).fold(0.0, f64::max);
+pub fn chart(s: &Settings, answer: &Answer, part: &Part) -> String {
+    let Some(picture) = &part.picture else { return String::new() };
+    let highest = picture.curves.iter().flatten().flatten().map(|(_, most)| *most).fold(0.0, f64::max);
     let top = (highest.max(s.swell as f64) / 10.0).floor() * 10.0 + 10.0;
-    let frame = Frame { halves: halves as f64, top };
-    let lanes = lanes(answer);
-    let mut inner = bands(&frame, &answer.events) + &grid(&frame, s) + &thresholds(&frame, s);
-    inner += &holes(&frame, unknown);
-    for (curve, class) in curves.iter().zip(["a", "b", "c"]) {
+    let frame = Frame { first: part.first_half as f64, halves: (part.end() - part.first_half) as f64, top };
+    let lanes = lanes(part);
+    let mut inner = bands(&frame, &part.events) + &grid(&frame, s) + &thresholds(&frame, s);
+    inner += &holes(&frame, &picture.unknown);
+    for (curve, class) in picture.curves.iter().zip(["a", "b", "c"]) {
         inner += &format!(r#"<path class="curve {class}" d="{}"/>"#, path(&frame, curve));
     }
-    if answer.events.len() <= CROWD {
-        inner += &peaks(&frame, &answer.events);
+    if part.events.len() <= CROWD {
+        inner += &peaks(&frame, &part.events);
     }
     for (at, kind) in lanes.iter().enumerate() {
-        inner += &lane(&frame, *kind, at, &answer.events);
+        inner += &lane(&frame, *kind, at, &part.events);
     }
     let bottom = TOP + HEIGHT + LANE * lanes.len() as f64;
     inner += &time_axis(&frame, s, bottom + 8.0);
-    whole(WIDTH, bottom + 44.0, &format!("rms of channels a, b and c over time: {}", answer.name), &inner)
+    whole(WIDTH, bottom + 44.0, &format!("rms of channels a, b and c over time: {}", answer.named(part)), &inner)
 }
 
-/// The kinds that the recording has events of.
-fn lanes(answer: &Answer) -> Vec<u64> {
-    (1..=3).filter(|kind| answer.events.iter().any(|event| event.kind == *kind)).collect()
-}
-
-fn curves(s: &Settings, samples: &[i32], halves: usize, unknown: &[(u64, u64)]) -> [Curve; 3] {
-    let columns = halves.min(COLUMNS);
-    let mut curves = [(); 3].map(|()| vec![None; columns]);
-    let mut holes = unknown.iter().peekable();
-    let half = s.n as usize / 2 * 3;
-    for k in 0..halves {
-        while holes.next_if(|(_, end)| *end <= k as u64).is_some() {}
-        if holes.peek().is_some_and(|(start, _)| *start <= k as u64) {
-            continue;
-        }
-        let percents = percents(s, &samples[k * half..(k + 2) * half]);
-        for (curve, percent) in curves.iter_mut().zip(percents) {
-            let column: &mut Option<(f64, f64)> = &mut curve[k * columns / halves];
-            let (least, most) = column.unwrap_or((percent, percent));
-            *column = Some((least.min(percent), most.max(percent)));
-        }
-    }
-    curves
-}
-
-/// The rms of each channel in percent of R, as a float: good enough to look at.
-fn percents(s: &Settings, window: &[i32]) -> [f64; 3] {
-    let mut sums = [0f64; 3];
-    for three in window.chunks_exact(3) {
-        for (sum, sample) in sums.iter_mut().zip(three) {
-            *sum += f64::from(*sample) * f64::from(*sample);
-        }
-    }
-    sums.map(|sum| 100.0 * (sum / s.n as f64).sqrt() / s.r as f64)
+/// The kinds that the part has events of.
+fn lanes(part: &Part) -> Vec<u64> {
+    (1..=3).filter(|kind| part.events.iter().any(|event| event.kind == *kind)).collect()
 }
 
 /// A curve's path: each value held over its column, and in a long recording a stroke from the least to the greatest.
@@ -107,7 +73,8 @@ fn path(frame: &Frame, curve: &Curve) -> String {
             height.clear();
             continue;
         };
-        let (from, to) = (frame.x(column as f64 * wide), frame.x((column + 1) as f64 * wide));
+        let x = |column: usize| frame.x(frame.first + column as f64 * wide);
+        let (from, to) = (x(column), x(column + 1));
         let (low, high) = (at(frame.y(*least)), at(frame.y(*most)));
         if height.is_empty() {
             path += &format!("M{} {low}", at(from));
@@ -137,33 +104,34 @@ fn grid(frame: &Frame, s: &Settings) -> String {
         out += &text("tick", "end", LEFT - 8.0, y + 4.0, &format!("{percent} %"));
         percent += apart;
     }
-    let (seconds, f2) = (frame.halves / (2 * s.f) as f64, (2 * s.f) as f64);
-    let apart = step(seconds, 9.0);
-    for tick in 0..=(seconds / apart + 1e-9) as usize {
-        let x = frame.x(tick as f64 * apart * f2);
+    for time in ticks(frame, s).0 {
+        let x = frame.x(time * (2 * s.f) as f64);
         out += &line("grid", x, TOP, x, TOP + HEIGHT);
     }
     out
 }
 
+/// The times in seconds at which the axis has a tick, and how far they are apart.
+fn ticks(frame: &Frame, s: &Settings) -> (Vec<f64>, f64) {
+    let pace = (2 * s.f) as f64;
+    let apart = step(frame.halves / pace, 9.0);
+    let (first, last) = (frame.first / pace / apart, (frame.first + frame.halves) / pace / apart);
+    let ticks = (first - 1e-9).ceil() as u64..=(last + 1e-9) as u64;
+    (ticks.map(|tick| tick as f64 * apart).collect(), apart)
+}
+
 fn time_axis(frame: &Frame, s: &Settings, y: f64) -> String {
-    let (seconds, f2) = (frame.halves / (2 * s.f) as f64, (2 * s.f) as f64);
-    let apart = step(seconds, 9.0);
-    let mut out = String::new();
-    for tick in 0..=(seconds / apart + 1e-9) as usize {
-        let time = tick as f64 * apart;
-        let digits = if apart < 0.01 {
-            3
-        } else if apart < 0.1 {
-            2
-        } else if apart < 1.0 {
-            1
-        } else {
-            0
-        };
-        out += &text("tick", "middle", frame.x(time * f2), y + 12.0, &format!("{time:.digits$}"));
-    }
-    out + &text("tick", "middle", frame.x(frame.halves / 2.0), y + 28.0, "seconds")
+    let (times, apart) = ticks(frame, s);
+    let digits = match apart {
+        apart if apart < 0.01 => 3,
+        apart if apart < 0.1 => 2,
+        apart if apart < 1.0 => 1,
+        _ => 0,
+    };
+    let label =
+        |time: f64| text("tick", "middle", frame.x(time * (2 * s.f) as f64), y + 12.0, &format!("{time:.digits$}"));
+    let labels: String = times.into_iter().map(label).collect();
+    labels + &text("tick", "middle", frame.x(frame.first + frame.halves / 2.0), y + 28.0, "seconds")
 }
 
 /// A line at each threshold, and the band of its hysteresis.
@@ -224,7 +192,7 @@ fn bands(frame: &Frame, events: &[Found]) -> String {
 fn peaks(frame: &Frame, events: &[Found]) -> String {
     let (mut out, mut last) = (String::new(), f64::MIN);
     for event in events.iter().filter(|event| event.kind != 2) {
-        let Some(k) = event.peak else { continue };
+        let Some((k, _)) = event.close.as_ref().and_then(|close| close.peak) else { continue };
         let (x, y) = (frame.x(k as f64 + 0.5), frame.y(event.retained as f64 / 10.0));
         if x >= last + 3.0 {
             out +=

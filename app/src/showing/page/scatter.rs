@@ -1,9 +1,12 @@
 //! Retained value against duration, on a logarithmic axis, with the severity curve.
 use super::{
+    contents::Contents,
     svg::{at, esc, line, text, whole, wide},
-    Drawn,
 };
-use crate::{answer::Found, probe, words};
+use crate::{
+    answered::{Found, Part},
+    showing::words,
+};
 use host::Settings;
 use std::collections::BTreeSet;
 
@@ -30,19 +33,15 @@ impl Frame {
         LEFT + (WIDTH - LEFT - RIGHT) * ((halves / self.pace).log10() - first) / (last - first)
     }
 
-    fn halves(&self, x: f64) -> f64 {
-        let (first, last) = self.decades;
-        self.pace * 10f64.powf(first + (last - first) * (x - LEFT) / (WIDTH - LEFT - RIGHT))
-    }
-
     fn y(&self, thousandths: f64) -> f64 {
         TOP + HEIGHT * (1.0 - thousandths.min(self.top) / self.top)
     }
 }
 
 /// The whole drawing: the events of all recordings, each named by its recording and its number there.
-pub fn chart(s: &Settings, drawn: &[Drawn]) -> String {
-    let events = || drawn.iter().flat_map(|d| d.answer.events.iter());
+pub fn chart(s: &Settings, contents: &Contents) -> String {
+    let parts: Vec<&Part> = contents.recordings.iter().flat_map(|shown| &shown.answer.parts).collect();
+    let events = || parts.iter().flat_map(|part| part.events.iter());
     let longest = events().map(Found::halves).max().unwrap_or(1) as f64 / (2 * s.f) as f64;
     let highest = events().map(|event| event.retained).max().unwrap_or(0).max(s.swell * 10) as f64;
     let frame = Frame {
@@ -50,7 +49,7 @@ pub fn chart(s: &Settings, drawn: &[Drawn]) -> String {
         decades: (-2.3, longest.log10().floor().max(0.0) + 1.0),
         top: (highest / 100.0).floor() * 100.0 + 100.0,
     };
-    let inner = grid(&frame) + &curve(&frame, s) + &points(&frame, drawn) + &legend(TOP + HEIGHT + 50.0);
+    let inner = grid(&frame) + &curve(&frame, contents.curve) + &points(&frame, &parts) + &legend(TOP + HEIGHT + 50.0);
     whole(WIDTH, TOP + HEIGHT + 60.0, "retained value against duration, with the severity curve", &inner)
 }
 
@@ -77,20 +76,17 @@ fn grid(frame: &Frame) -> String {
 }
 
 /// The curve, and the field under it, where severity is above 1.
-fn curve(frame: &Frame, s: &Settings) -> String {
+fn curve(frame: &Frame, steps: &[(u64, u64)]) -> String {
     let mut path = String::new();
-    let mut height = String::new();
-    for column in 0..=(WIDTH - LEFT - RIGHT) as usize {
-        let x = LEFT + column as f64;
-        let halves = frame.halves(x).floor().clamp(1.0, 100_000.0);
-        let Some(value) = probe::curve(s, halves as u64) else { continue };
-        let y = at(frame.y(value));
-        if height.is_empty() {
-            path += &format!("M{} {y}", at(x));
-        } else if height != y {
-            path += &format!("H{}V{y}", at(x));
+    for (halves, value) in steps {
+        // The first step reaches back to the axis, and what lies beyond the drawing is left out.
+        let x = if path.is_empty() { LEFT } else { frame.x(*halves as f64) };
+        let y = at(frame.y(*value as f64));
+        match x {
+            x if x >= WIDTH - RIGHT => break,
+            x if path.is_empty() => path = format!("M{} {y}", at(x)),
+            x => path += &format!("H{}V{y}", at(x)),
         }
-        height = y;
     }
     path += &format!("H{}", at(WIDTH - RIGHT));
     let (bottom, left) = (at(TOP + HEIGHT), at(LEFT));
@@ -100,11 +96,11 @@ fn curve(frame: &Frame, s: &Settings) -> String {
     out
 }
 
-fn points(frame: &Frame, drawn: &[Drawn]) -> String {
-    let count: usize = drawn.iter().map(|d| d.answer.events.len()).sum();
+fn points(frame: &Frame, parts: &[&Part]) -> String {
+    let count: usize = parts.iter().map(|part| part.events.len()).sum();
     let (mut shapes, mut taken, mut names) = ([String::new(), String::new()], BTreeSet::new(), Vec::new());
-    for (recording, d) in drawn.iter().enumerate() {
-        for (number, event) in d.answer.events.iter().enumerate() {
+    for (recording, part) in parts.iter().enumerate() {
+        for (number, event) in part.events.iter().enumerate() {
             let (x, y) = (frame.x(event.halves() as f64), frame.y(event.retained as f64));
             let scored = event.reason == 0;
             // Points on top of each other look like one: the first of them is enough, and the page stays small.

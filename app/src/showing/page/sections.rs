@@ -1,41 +1,48 @@
 //! The page: the site, all events, then each recording.
 use super::{
-    scatter, site,
+    contents::{Contents, Shown},
+    rms, scatter,
     svg::{at, esc},
-    Drawn,
+    table as drawn,
 };
 use crate::{
-    answer::{self, Found},
-    words,
+    answered::{
+        table::{self, Counts},
+        Answer, Found, Part,
+    },
+    showing::words,
 };
-use host::{Settings, Table};
+use host::Settings;
 
 /// Rows of a recording's event list; where there are more, the page says how many and where they are found.
 const MOST_ROWS: usize = 300;
 /// Unknown stretches that are named one by one.
 const MOST_STRETCHES: usize = 12;
 
+/// What the first lines of each page hold: by it a page of ours is told from any other file.
+pub const MARK: &str = "<meta name=\"generator\" content=\"burrcradle ";
+
 /// The whole page.
-pub fn page(name: &str, table: &Table, drawn: &[Drawn]) -> String {
-    let s = answer::settings(table);
+pub fn page(contents: &Contents) -> String {
+    let (s, name, version) = (table::settings(contents.table), esc(contents.name), env!("CARGO_PKG_VERSION"));
     let mut body = format!(
-        "<header><p class=\"over\">Burrcradle report: voltage sags, interruptions and swells</p><h1>{}</h1>\
-         <p class=\"sub\">{}</p></header>\n",
-        esc(name),
-        esc(&words::settings(&s))
+        "<header><p class=\"over\">Burrcradle report: voltage sags, interruptions and swells</p><h1>{name}</h1>\
+         <p class=\"sub\">{}</p><p class=\"sub\">Made on {} by burrcradle {version}.</p></header>\n",
+        esc(&words::settings(&s)),
+        esc(&contents.made)
     );
-    body += &site_section(&s, table);
-    body += &scatter_section(&s, drawn);
-    for (number, one) in drawn.iter().enumerate() {
-        body += &recording_section(&s, number + 1, one);
+    body += &site_section(&s, contents);
+    body += &scatter_section(&s, contents);
+    let parts = contents.recordings.iter().flat_map(|shown| shown.answer.parts.iter().map(move |part| (shown, part)));
+    for (number, (shown, part)) in parts.enumerate() {
+        body += &recording_section(&s, number + 1, shown, part);
     }
     body += FOOT;
     format!(
-        "<!DOCTYPE html>\n<html lang=\"en\"><head><meta charset=\"utf-8\">\
+        "<!DOCTYPE html>\n<html lang=\"en\"><head><meta charset=\"utf-8\">{MARK}{version}\">\n\
          <meta name=\"viewport\" content=\"width=device-width,initial-scale=1\">\
-         <meta name=\"color-scheme\" content=\"light dark\"><title>{} - Burrcradle</title>\n\
+         <meta name=\"color-scheme\" content=\"light dark\"><title>{name} - Burrcradle</title>\n\
          <style>\n{}</style></head>\n<body>{HATCH}\n{body}</body></html>\n",
-        esc(name),
         include_str!("style.css")
     )
 }
@@ -48,61 +55,103 @@ const HATCH: &str = "<svg class=\"defs\" aria-hidden=\"true\"><defs><pattern id=
 
 const FOOT: &str = "<footer>Events, scores, reasons, cells and counts are the proved library's answers. The curves are drawn \
                     from the samples. Durations are half-cycles / 2f; a shortfall in seconds is shortfall / (N x R x R x 2f), \
-                    in whole milliseconds, rounded down.</footer>\n";
+                    in whole milliseconds, rounded down. A recording's SHA-256 is what <code>sha256sum</code> says of its \
+                    file.</footer>\n";
 
 fn tile(value: &str, label: &str, more: &str) -> String {
     format!("<div class=\"tile\"><b>{}</b><span>{}</span><i>{}</i></div>", esc(value), esc(label), esc(more))
 }
 
-fn site_section(s: &Settings, table: &Table) -> String {
-    let c = answer::counts(table);
-    let tiles = [
-        tile(&words::seconds(c.total, s.f), "recorded", &words::count(c.total, "half-cycle")),
+fn site_section(s: &Settings, contents: &Contents) -> String {
+    let c = table::counts(contents.table);
+    let mut tiles = vec![tile(&words::seconds(c.total, s.f), "recorded", &words::count(c.total, "half-cycle"))];
+    if c.unknown > 0 {
+        let more = format!("{}: nobody saw them", words::count(c.unknown, "half-cycle"));
+        tiles.push(tile(&words::seconds(c.unknown, s.f), "unknown", &more));
+    }
+    tiles.extend([
         tile(&c.sags.to_string(), "sags", &format!("{} unplaced", c.unplaced)),
         tile(&c.interruptions.to_string(), "interruptions", &format!("{} stray", c.stray)),
         tile(&c.swells.to_string(), "swells", ""),
         tile(&format!("{} s", words::shortfall_seconds(s, c.shortfall)), "shortfall", &c.shortfall.to_string()),
-    ];
+    ]);
     format!(
-        "<section><h2>The site's table</h2><div class=\"tiles\">{}</div>\n<h3>Half-cycles</h3>{}\n\
+        "<section><h2>The site's table</h2><p class=\"note\">{}</p><div class=\"tiles\">{}</div>\n<h3>Half-cycles</h3>{}\n\
          <h3>Sags by depth and duration</h3>{}\n<p class=\"note\">Rows by the smallest voltage that was left, columns by \
          duration. A sag with an unseen end has no cell: {} unplaced.</p></section>\n",
+        esc(&relation(contents)),
         tiles.concat(),
-        site::bar(table),
-        site::heat(table),
+        drawn::bar(contents.table),
+        drawn::heat(contents.table),
         c.unplaced
     )
 }
 
-fn scatter_section(s: &Settings, drawn: &[Drawn]) -> String {
+/// How the recordings on the page stand to the table: making a page adds nothing to it.
+fn relation(contents: &Contents) -> String {
+    if contents.holds {
+        return "The table holds the recordings below and nothing else.".into();
+    }
+    let mut said =
+        "The table is what the site's file held when this page was made. The page shows the recordings below \
+                    under the table's settings and adds nothing to it: they need not be in it."
+            .to_string();
+    let all = contents.recordings.iter().map(|shown| shown.answer.counts());
+    let sum = |of: fn(&Counts) -> u64| all.clone().map(|c| of(&c)).sum::<u64>();
+    let c = table::counts(contents.table);
+    let counts = [
+        ("half-cycle", c.total, sum(|c| c.total)),
+        ("healthy half-cycle", c.healthy, sum(|c| c.healthy)),
+        ("disturbed half-cycle", c.disturbed, sum(|c| c.disturbed)),
+        ("unknown half-cycle", c.unknown, sum(|c| c.unknown)),
+        ("sag", c.sags, sum(|c| c.sags)),
+        ("interruption", c.interruptions, sum(|c| c.interruptions)),
+        ("swell", c.swells, sum(|c| c.swells)),
+    ];
+    let short = counts.iter().rev().find(|(_, counted, shown)| counted < shown);
+    if let Some((what, counted, shown)) = short {
+        said += &format!(" They are not all in it: it counts {}, and they have {shown}.", words::count(*counted, what));
+    }
+    said
+}
+
+fn scatter_section(s: &Settings, contents: &Contents) -> String {
     format!(
         "<section><h2>Depth against duration</h2>{}<p class=\"note\">Retained value in percent of R. The severity of a sag is \
          how far it stays under 100 %, divided by how far the curve does.</p></section>\n",
-        scatter::chart(s, drawn)
+        scatter::chart(s, contents)
     )
 }
 
-fn recording_section(s: &Settings, number: usize, drawn: &Drawn) -> String {
-    let c = answer::counts(&drawn.answer.own);
+fn recording_section(s: &Settings, number: usize, shown: &Shown, part: &Part) -> String {
+    let (answer, c) = (&shown.answer, table::counts(&part.own));
     let mut out = format!(
         "<section class=\"recording\"><div class=\"keep\"><h2><span>{number}</span>{}</h2><p class=\"sub\">{}: {} healthy, \
-         {} disturbed, {} unknown{}</p>\n",
-        esc(&drawn.answer.name),
+         {} disturbed, {} unknown{}</p>\n{}",
+        esc(&answer.named(part)),
         words::count(c.total, "half-cycle"),
         c.healthy,
         c.disturbed,
         c.unknown,
-        part_note(drawn)
+        esc(&part_note(s, answer, part)),
+        fingerprint(shown)
     );
-    out += &format!("{KEY}{}</div>\n", drawn.chart);
-    if !drawn.unknown.is_empty() {
-        out += &format!("<p class=\"note\"><b>Unknown:</b> {}.</p>\n", stretches(s, &drawn.unknown));
+    out += &format!("{KEY}{}</div>\n", rms::chart(s, answer, part));
+    let unknown = part.picture.as_ref().map_or(&[][..], |picture| &picture.unknown);
+    if !unknown.is_empty() {
+        out += &format!("<p class=\"note\"><b>Unknown:</b> {}.</p>\n", stretches(s, unknown));
     }
-    out += &events_table(s, &drawn.answer.events);
-    if !drawn.note.is_empty() {
-        out += &format!("<p class=\"lesson\">{}</p>\n", esc(&drawn.note));
+    out += &events_table(s, &part.events, &c);
+    if !shown.note.is_empty() {
+        out += &format!("<p class=\"lesson\">{}</p>\n", esc(&shown.note));
     }
     out + "</section>\n"
+}
+
+/// What tells the recording from any other, however it is named.
+fn fingerprint(shown: &Shown) -> String {
+    let Some((bytes, sha256)) = &shown.fingerprint else { return String::new() };
+    format!("<p class=\"print\">{}, SHA-256 {sha256}</p>\n", words::count(*bytes, "byte"))
 }
 
 /// Which line is which: told by dashes as well as by colour.
@@ -114,15 +163,27 @@ const KEY: &str = "<p class=\"keys\"><svg class=\"dash\" viewBox=\"0 0 30 8\"><p
     <line class=\"post sag\" x1=\"2\" y1=\"0\" x2=\"2\" y2=\"16\"/><line class=\"open sag\" x1=\"28\" y1=\"0\" x2=\"28\" y2=\"16\"/>\
     </svg>launch to landing (dotted end: unseen) &nbsp; the band at a threshold is its hysteresis</p>\n";
 
-fn part_note(drawn: &Drawn) -> String {
-    match drawn.answer.of {
-        1 => String::new(),
-        _ => format!(
-            ". Cut from a longer recording, from its half-cycle {} on: an event that reaches over a cut is told as two, \
-             with the ends at the cut unseen and no score",
-            drawn.answer.first_half
-        ),
+/// Where the part lies in its recording, and what the cuts at its ends do.
+fn part_note(s: &Settings, answer: &Answer, part: &Part) -> String {
+    if answer.cuts.is_empty() {
+        return String::new();
     }
+    let mut said = format!(
+        ". Half-cycles and times are those of the whole recording; this part goes from half-cycle {} ({}) up to {} ({}).",
+        part.first_half,
+        words::seconds(part.first_half, s.f),
+        part.end(),
+        words::seconds(part.end(), s.f)
+    );
+    let here = |at: u64| at == part.first_half || at == part.end();
+    let cuts: Vec<_> = answer.cuts.iter().filter(|cut| here(cut.at)).collect();
+    for cut in cuts.iter().filter(|cut| !cut.splits.is_empty()) {
+        said += &format!(" {}", words::splits(cut, &format!("half-cycle {}", cut.at)));
+    }
+    if cuts.iter().all(|cut| cut.splits.is_empty()) {
+        said += " No event reaches over a cut.";
+    }
+    said
 }
 
 fn stretches(s: &Settings, unknown: &[(u64, u64)]) -> String {
@@ -137,9 +198,10 @@ fn stretches(s: &Settings, unknown: &[(u64, u64)]) -> String {
     said
 }
 
-fn events_table(s: &Settings, events: &[Found]) -> String {
+fn events_table(s: &Settings, events: &[Found], c: &Counts) -> String {
     if events.is_empty() {
-        return "<p class=\"note\">No event.</p>\n".into();
+        let said = if c.unknown > 0 { words::no_event(c) } else { "No event.".into() };
+        return format!("<p class=\"{}\">{}</p>\n", if c.unknown > 0 { "unseen" } else { "note" }, esc(&said));
     }
     let head =
         ["", "kind", "launch", "landing", "lasted", "seen", "retained", "severity", "energy", "cell, or why no score"];

@@ -1,37 +1,43 @@
 //! The site's table: its half-cycles as one bar, its sags as a heat map.
-use super::svg::{line, rect, text, whole, wide};
-use crate::{answer, words};
+use super::svg::{esc, line, rect, text, whole};
+use crate::{
+    answered::table::{cells, counts},
+    showing::words,
+};
 use host::Table;
 
 const WIDTH: f64 = 960.0;
 
-/// Healthy, disturbed and unknown half-cycles as one bar. Unknown is hatched, and has the colour of neither.
+/// Healthy, disturbed and unknown half-cycles as one bar, which shrinks with the page. Unknown is hatched, has the colour of
+/// neither, and is never too narrow to be seen.
 pub fn bar(table: &Table) -> String {
-    let c = answer::counts(table);
-    let (mut x, mut key, mut out) = (0.0, 0.0, String::new());
-    for (class, count) in [("healthy", c.healthy), ("disturbed", c.disturbed), ("unknown", c.unknown)] {
-        let share = if c.total == 0 { 0.0 } else { count as f64 / c.total as f64 };
-        out += &rect(&format!("share {class}"), x, 0.0, WIDTH * share, 30.0);
-        x += WIDTH * share;
-        let said = format!("{class} {count} ({:.1} %)", 100.0 * share);
-        out += &rect(&format!("share {class}"), key, 42.0, 14.0, 14.0);
-        out += &text("key", "start", key + 21.0, 54.0, &said);
-        key += wide(&said) + 70.0;
-    }
-    out += &rect("edge", 0.5, 0.5, WIDTH - 1.0, 29.0);
+    let c = counts(table);
+    let classes = [("healthy", c.healthy), ("disturbed", c.disturbed), ("unknown", c.unknown)];
+    let percent = |count: u64| if c.total == 0 { 0.0 } else { 100.0 * count as f64 / c.total as f64 };
+    let share = |(class, count): (&str, u64)| match count {
+        0 => String::new(),
+        count => format!(r#"<i class="share {class}" style="flex-grow:{:.4}"></i>"#, percent(count)),
+    };
+    let key = |(class, count): (&str, u64)| {
+        format!(r#"<span><i class="share {class}"></i>{class} {count} ({:.1} %)</span>"#, percent(count))
+    };
     let shows = format!("{} healthy, {} disturbed, {} unknown half-cycles", c.healthy, c.disturbed, c.unknown);
-    whole(WIDTH, 60.0, &shows, &out)
+    let (shares, keys) = (classes.map(share).concat(), classes.map(key).concat());
+    format!(
+        r#"<div class="shares" role="img" aria-label="{}">{shares}</div><p class="share-keys">{keys}</p>"#,
+        esc(&shows)
+    )
 }
 
 /// The sags by depth and duration, darker where there are more, each cell with its count.
 pub fn heat(table: &Table) -> String {
     let (left, top, wide, high) = (130.0, 24.0, (WIDTH - 130.0) / 8.0, 34.0);
-    let most = answer::cells(table).iter().copied().max().unwrap_or(0);
+    let most = cells(table).iter().copied().max().unwrap_or(0);
     let mut out = String::new();
     for (column, said) in words::COLUMNS.iter().enumerate() {
         out += &text("tick", "middle", left + (column as f64 + 0.5) * wide, top - 9.0, said);
     }
-    for (cell, count) in answer::cells(table).iter().enumerate() {
+    for (cell, count) in cells(table).iter().enumerate() {
         let (x, y) = (left + (cell % 8) as f64 * wide, top + (cell / 8) as f64 * high);
         let level = level(*count, most);
         out += &rect(&format!("cell heat{level}"), x + 1.0, y + 1.0, wide - 2.0, high - 2.0);

@@ -1,0 +1,47 @@
+//! A site table's numbers by name.
+use host::{Settings, Table};
+
+/// The names of the seven settings, in the order of the rules.
+pub const SETTINGS: [&str; 7] = ["n", "r", "f", "sag", "interruption", "swell", "hysteresis"];
+
+/// The names of the table's numbers, in order.
+pub fn names() -> Vec<String> {
+    let halves = ["total", "healthy", "disturbed", "unknown"].map(String::from);
+    let cells = (0..40).map(|cell| format!("cell-{cell}"));
+    let events = ["unplaced", "sags", "interruptions", "swells", "stray", "shortfall"].map(String::from);
+    SETTINGS.map(String::from).into_iter().chain(halves).chain(cells).chain(events).collect()
+}
+
+/// What a table counts besides its cells.
+#[derive(Clone, Copy, Default)]
+pub struct Counts {
+    pub total: u64,
+    pub healthy: u64,
+    pub disturbed: u64,
+    pub unknown: u64,
+    pub unplaced: u64,
+    pub sags: u64,
+    pub interruptions: u64,
+    pub swells: u64,
+    pub stray: u64,
+    pub shortfall: u64,
+}
+
+pub fn counts(table: &Table) -> Counts {
+    let [total, healthy, disturbed, unknown] = [table[7], table[8], table[9], table[10]];
+    let [unplaced, sags, interruptions, swells, stray, shortfall] =
+        [table[51], table[52], table[53], table[54], table[55], table[56]];
+    Counts { total, healthy, disturbed, unknown, unplaced, sags, interruptions, swells, stray, shortfall }
+}
+
+/// The forty cells of a table, in order.
+pub fn cells(table: &Table) -> &[u64] {
+    &table[11..51]
+}
+
+/// The settings that a table holds.
+pub fn settings(table: &Table) -> Settings {
+    let [n, r, f, sag, interruption, swell, hysteresis] =
+        [table[0], table[1], table[2], table[3], table[4], table[5], table[6]];
+    Settings { n, r, f, sag, interruption, swell, hysteresis }
+}

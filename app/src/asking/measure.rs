@@ -1,0 +1,122 @@
+//! Measuring a recording: what can be seen of it before the rules are asked.
+use super::halves;
+use crate::{
+    answered::measured::{Channel, Held, Measured, Spread},
+    reading::recording::{Recording, MISSING},
+};
+use host::{Refused, Settings};
+
+/// The largest sample that the rules allow.
+const LARGEST: u32 = 100_000;
+
+/// Measures a recording under good settings.
+pub fn measure(s: &Settings, recording: &Recording) -> Measured {
+    let samples = &recording.samples;
+    let (length, half) = (samples.len() as u64 / 3, s.n / 2);
+    let refused = match host::list(s, samples, &mut []) {
+        Ok(_) | Err(Refused { number: 7, .. }) => None,
+        Err(refused) => Some(refused),
+    };
+    Measured {
+        name: recording.name.clone(),
+        length,
+        ragged: samples.len() as u64 % 3,
+        halves: (length / half).saturating_sub(1),
+        over: length % half,
+        channels: [0, 1, 2].map(|channel| one(s, samples, channel)),
+        refused,
+    }
+}
+
+/// The median of each channel's rms in percent of R; none where no half-cycle of it is whole.
+pub fn medians(s: &Settings, samples: &[i32]) -> [Option<f64>; 3] {
+    [0, 1, 2].map(|channel| spread(s, samples, channel).map(|spread| spread.median))
+}
+
+fn one(s: &Settings, samples: &[i32], channel: usize) -> Channel {
+    let own = || samples.iter().skip(channel).step_by(3).copied();
+    Channel {
+        missing: own().filter(|x| *x == MISSING).count() as u64,
+        out_of_range: own().filter(|x| *x != MISSING && !usable(*x)).count() as u64,
+        rms: spread(s, samples, channel),
+        held: held(own()),
+        period: period(own),
+    }
+}
+
+fn usable(sample: i32) -> bool {
+    sample.unsigned_abs() <= LARGEST
+}
+
+/// The rms of the channel's half-cycles, those that lack none of its samples.
+fn spread(s: &Settings, samples: &[i32], channel: usize) -> Option<Spread> {
+    let block = (s.n / 2) as usize * 3;
+    let sum = |block: &[i32]| {
+        let (mut sum, mut whole) = (0, true);
+        for x in block.iter().skip(channel).step_by(3) {
+            let size = if usable(*x) { u64::from(x.unsigned_abs()) } else { 0 };
+            whole &= usable(*x);
+            sum += size * size;
+        }
+        whole.then_some(sum)
+    };
+    let blocks: Vec<Option<u64>> = samples.chunks_exact(block).map(sum).collect();
+    let whole = blocks.windows(2).filter_map(|pair| Some(pair[0]? + pair[1]?));
+    let mut percents: Vec<f64> = whole.map(|sum| halves::percent(s, sum)).collect();
+    let median = median(&mut percents)?;
+    let least = percents.iter().copied().fold(f64::INFINITY, f64::min);
+    let greatest = percents.iter().copied().fold(0.0, f64::max);
+    Some(Spread { median, least, greatest })
+}
+
+/// The middle value; none of no values.
+fn median(values: &mut [f64]) -> Option<f64> {
+    let middle = values.len() / 2;
+    (!values.is_empty()).then(|| *values.select_nth_unstable_by(middle, f64::total_cmp).1)
+}
+
+/// The longest run of one value; a missing sample ends a run.
+fn held(samples: impl Iterator<Item = i32>) -> Held {
+    let (mut longest, mut now) = (Held::default(), Held::default());
+    for (at, value) in samples.enumerate() {
+        if value == MISSING {
+            now = Held::default();
+        } else if now.samples > 0 && now.value == value {
+            now.samples += 1;
+        } else {
+            now = Held { value, first: at as u64, samples: 1 };
+        }
+        if now.samples > longest.samples {
+            longest = now;
+        }
+    }
+    longest
+}
+
+/// The median time between two rises through the mean. A rise counts where the channel came from well below and goes on to
+/// well above, so that noise around the mean makes none; a missing sample ends what was going on.
+fn period<I: Iterator<Item = i32>>(samples: impl Fn() -> I) -> Option<f64> {
+    let known = || samples().filter(|x| usable(*x)).map(f64::from);
+    let count = known().count() as f64;
+    let mean = known().sum::<f64>() / count;
+    let level = (known().map(|x| (x - mean) * (x - mean)).sum::<f64>() / count).sqrt() / 2.0;
+    let (mut gaps, mut before, mut low, mut rise, mut last) = (Vec::new(), None, false, None, None);
+    for (at, x) in samples().enumerate() {
+        if !usable(x) {
+            (before, low, rise, last) = (None, false, None, None);
+            continue;
+        }
+        let (x, at) = (f64::from(x) - mean, at as f64);
+        if let Some(from) = before.filter(|from| low && *from <= 0.0 && x > 0.0) {
+            rise = Some(at - x / (x - from));
+        }
+        if low && x > level {
+            gaps.extend(rise.zip(last).map(|(now, then): (f64, f64)| now - then));
+            (low, last) = (false, rise);
+        } else if x < -level {
+            (low, rise) = (true, None);
+        }
+        before = Some(x);
+    }
+    median(&mut gaps).filter(|_| level > 0.0)
+}

@@ -1,0 +1,64 @@
+//! `list` and `explain`: the events of recordings.
+use super::args::{Args, Format, Takes};
+use crate::{
+    answered::Answer,
+    asking::{self, Wish},
+    failure::Failure,
+    reading::{self, How},
+    showing::{
+        csv,
+        json::{self, Json},
+        paint::Paint,
+        text,
+    },
+    terminal::{Progress, Said},
+};
+use host::Settings;
+
+pub const LIST: Takes = Takes {
+    files: &["RECORDING"],
+    many: true,
+    values: &["--site", "--n", "--r", "--f", "--sag", "--interruption", "--swell", "--hysteresis", "--room"],
+    flags: &["--cut", "--raw", "--json", "--csv"],
+};
+pub const EXPLAIN: Takes = Takes {
+    files: &["RECORDING"],
+    many: true,
+    values: &["--site", "--n", "--r", "--f", "--sag", "--interruption", "--swell", "--hysteresis"],
+    flags: &["--cut", "--raw", "--json", "--csv"],
+};
+
+pub fn list(args: &Args) -> Result<Said, Failure> {
+    let room = match args.whole("--room")? {
+        Some(room) if room > 100_000_000 => return Err(Failure::Usage("--room wants at most 100000000".into())),
+        room => room.map(|room| room as usize),
+    };
+    told(args, Wish { cut: args.flag("--cut"), room, ..Wish::default() }, text::list)
+}
+
+pub fn explain(args: &Args) -> Result<Said, Failure> {
+    told(args, Wish { cut: args.flag("--cut"), close: true, ..Wish::default() }, text::explained)
+}
+
+fn told(args: &Args, wish: Wish, in_text: fn(&Settings, &Answer, &Paint) -> String) -> Result<Said, Failure> {
+    let (format, s) = (args.format()?, args.settings_or_site()?);
+    let mut answers = Vec::new();
+    for file in &args.files {
+        let _progress = Progress::on(&format!("listing {}", reading::name(file)));
+        let recording = reading::read(file, How { raw: args.flag("--raw"), fingerprint: false })?;
+        answers.push(asking::about(&s, &recording, wish)?);
+    }
+    let text = match format {
+        Format::Text => {
+            let told = answers.iter().map(|answer| in_text(&s, answer, &Paint::stdout()));
+            told.collect::<Vec<_>>().join("\n")
+        }
+        Format::Json => {
+            let told = answers.iter().map(|answer| json::recording(&s, answer, wish.close)).collect();
+            let fields = vec![("settings", json::settings(&s)), ("recordings", Json::List(told))];
+            format!("{}\n", Json::Object(fields))
+        }
+        Format::Csv => csv::events(&s, &answers, wish.close),
+    };
+    Ok(text.into())
+}

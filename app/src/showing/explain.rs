@@ -1,0 +1,200 @@
+//! Each event in sentences: its launch, peak and landing, and why it has or has no score.
+use super::words;
+use crate::answered::{Answer, Found, Half, Part};
+use host::Settings;
+use std::cmp::Ordering;
+
+/// What the sentences of an event are about.
+pub const LABELS: [&str; 4] = ["launch", "peak", "landing", "score"];
+
+const CHANNELS: [&str; 3] = ["a", "b", "c"];
+
+/// An event's launch, peak, landing and score, a sentence each.
+pub fn told(s: &Settings, answer: &Answer, part: &Part, event: &Found) -> [String; 4] {
+    [launch(s, answer, part, event), peak(s, event), landing(s, answer, part, event), score(s, event)]
+}
+
+/// The percents of R at which an event of this kind launches and lands.
+fn borders(s: &Settings, kind: u64) -> [u64; 2] {
+    match kind {
+        1 => [s.sag, s.sag + s.hysteresis],
+        2 => [s.interruption, s.interruption + s.hysteresis],
+        _ => [s.swell, s.swell - s.hysteresis],
+    }
+}
+
+/// How an rms value lies to a percent of R, exactly.
+fn against(s: &Settings, sum: u64, percent: u64) -> Ordering {
+    (10_000 * u128::from(sum)).cmp(&(u128::from(percent).pow(2) * words::reference(s)))
+}
+
+/// The channels that lie so to a percent of R: `a and b are`, `c is`.
+fn which(s: &Settings, sums: [u64; 3], percent: u64, lies: fn(Ordering) -> bool) -> String {
+    let lie = CHANNELS.iter().zip(sums).filter(|(_, sum)| lies(against(s, *sum, percent)));
+    let names: Vec<&str> = lie.map(|(name, _)| *name).collect();
+    format!("{} {}", words::and(&names), if names.len() == 1 { "is" } else { "are" })
+}
+
+/// Where each channel stands: `a 60.0 %, b 97.0 %, c 97.0 %`.
+fn stands(s: &Settings, kind: u64, sums: [u64; 3]) -> String {
+    let stands = |(name, sum): (&str, u64)| format!("{name} {}", words::percent(s, sum, &borders(s, kind)));
+    CHANNELS.into_iter().zip(sums).map(stands).collect::<Vec<_>>().join(", ")
+}
+
+fn at(s: &Settings, k: u64) -> String {
+    format!("half-cycle {k} (at {})", words::seconds(k, s.f))
+}
+
+/// Why a half-cycle is unknown: `it misses 4 samples of b`.
+fn misses(missing: [usize; 3]) -> String {
+    let lost = CHANNELS.iter().zip(missing).filter(|(_, count)| *count > 0);
+    let lost: Vec<String> =
+        lost.map(|(name, count)| format!("{} of {name}", words::count(count as u64, "sample"))).collect();
+    words::and(&lost.iter().map(String::as_str).collect::<Vec<_>>())
+}
+
+fn launch(s: &Settings, answer: &Answer, part: &Part, event: &Found) -> String {
+    let [border, _] = borders(s, event.kind);
+    let what = match (event.close.as_ref().map(|close| close.launch), event.kind) {
+        (Some(Half::Sums(sums)), 3) => {
+            let which = which(s, sums, border, Ordering::is_gt);
+            format!("{which} above {border} % of R ({})", stands(s, 3, sums))
+        }
+        (Some(Half::Sums(sums)), kind) => {
+            let which = which(s, sums, border, Ordering::is_lt);
+            format!("{which} below {border} % of R ({})", stands(s, kind, sums))
+        }
+        (_, 1) => format!("a channel is below {border} % of R"),
+        (_, 2) => format!("all channels are below {border} % of R"),
+        _ => format!("a channel is above {border} % of R"),
+    };
+    let before = match event.close.as_ref().map(|close| close.before) {
+        _ if event.seen & 1 == 1 => format!("half-cycle {} before it is known, so the start is seen", event.start - 1),
+        Some(Half::Missing(missing)) => format!(
+            "half-cycle {} before it is unknown (it misses {}), so the start is unseen",
+            event.start - 1,
+            misses(missing)
+        ),
+        _ if part.first_half > 0 => {
+            format!("{} is cut there, so the start is not told and may lie earlier", answer.name)
+        }
+        _ => "the recording begins there, so the start is unseen and may lie earlier".into(),
+    };
+    format!("{}: {what}; {before}.", at(s, event.start))
+}
+
+fn peak(s: &Settings, event: &Found) -> String {
+    let which = if event.kind == 3 { "largest" } else { "smallest" };
+    let peak = event.close.as_ref().and_then(|close| close.peak);
+    let place = peak.map_or(String::new(), |(k, _)| format!("{}: ", at(s, k)));
+    let channel = match peak {
+        Some((_, Half::Sums(sums))) => {
+            let on: Vec<&str> =
+                CHANNELS.into_iter().zip(sums).filter(|(_, sum)| *sum == event.extreme).map(|(c, _)| c).collect();
+            format!(", on {}", words::and(&on))
+        }
+        _ => String::new(),
+    };
+    let retained = format!("{}.{} % of R, rounded down", event.retained / 10, event.retained % 10);
+    let class = match event.kind {
+        1 => format!("; type {}: {}", words::class(event.class), words::class_told(event.class)),
+        _ => String::new(),
+    };
+    format!(
+        "{place}the {which} sum of squares, {}{channel}; retained {} = {retained}{class}.",
+        event.extreme, event.retained
+    )
+}
+
+fn landing(s: &Settings, answer: &Answer, part: &Part, event: &Found) -> String {
+    let [launch, back] = borders(s, event.kind);
+    let worked = match event.kind {
+        3 => format!("{launch} - hysteresis {}", s.hysteresis),
+        _ => format!("{launch} + hysteresis {}", s.hysteresis),
+    };
+    let how = match (event.close.as_ref().map(|close| close.landing), event.kind) {
+        (Some(Half::Sums(sums)), kind) if event.seen & 2 == 2 => {
+            let condition = match kind {
+                1 => format!("all channels are back at {back} % of R or more ({worked})"),
+                2 => format!(
+                    "{} back at {back} % of R or more ({worked}), and one is enough",
+                    which(s, sums, back, Ordering::is_ge)
+                ),
+                _ => format!("all channels are back at {back} % of R or less ({worked})"),
+            };
+            format!("{condition}: {}; it is known, so the end is seen", stands(s, kind, sums))
+        }
+        (Some(Half::Missing(missing)), _) => {
+            format!("it is unknown (it misses {}), so the end is unseen and may lie later", misses(missing))
+        }
+        _ if event.end == part.end() && part.number < answer.parts.len() => {
+            format!("{} is cut there, so the end is not told and may lie later", answer.name)
+        }
+        _ => "the recording ends there, so the end is unseen and may lie later".into(),
+    };
+    let lasted = words::seconds(event.halves(), s.f);
+    format!("{}: {how}. Lasted {} = {lasted}.", at(s, event.end), words::count(event.halves(), "half-cycle"))
+}
+
+fn score(s: &Settings, event: &Found) -> String {
+    let Some(score) = event.score else { return no_score(s, event) };
+    let curve = event.close.as_ref().and_then(|close| close.curve);
+    let severity = match curve {
+        Some(curve) => format!(
+            "severity (1000 - {}) / (1000 - {curve}) = {:.3}: retained {}, and {curve} is the curve's value for {}",
+            event.retained,
+            score.severity,
+            event.retained,
+            words::count(event.halves(), "half-cycle")
+        ),
+        None => format!("severity {:.3}", score.severity),
+    };
+    format!(
+        "{severity}; energy {:.3} s: shortfall {} / ({} x {} x {} x 2 x {}), rounded down to milliseconds; cell {}: {}, {}.",
+        score.energy,
+        event.shortfall,
+        s.n,
+        s.r,
+        s.r,
+        s.f,
+        event.cell,
+        row(s, event),
+        words::column(event.cell)
+    )
+}
+
+/// The row, and where the rounded figure would say another one, the exact sums that decide.
+fn row(s: &Settings, event: &Found) -> String {
+    let (row, told) = (event.cell as usize / 8, words::row(event.cell));
+    let rounded = words::ROW_BORDERS.iter().filter(|border| event.retained > 10 * **border).count();
+    if rounded == row {
+        return told;
+    }
+    let (border, lies) = match rounded < row {
+        true => (words::ROW_BORDERS[row - 1], "more than"),
+        false => (words::ROW_BORDERS[row], "at most"),
+    };
+    format!(
+        "{told} and not {}, as the rounded {} would have it: the exact 10000 x {} = {} is {lies} {border} x {border} x {} x {} x {} = {}",
+        words::row(8 * rounded as u64),
+        event.retained,
+        event.extreme,
+        10_000 * u128::from(event.extreme),
+        s.n,
+        s.r,
+        s.r,
+        u128::from(border).pow(2) * words::reference(s)
+    )
+}
+
+fn no_score(s: &Settings, event: &Found) -> String {
+    let why = format!("none, reason {}: {}", event.reason, words::reason(event.reason));
+    match event.kind {
+        1 => format!(
+            "{why}; what happened there is not known, so neither severity nor cell is given (shortfall {} = {} s is what was seen).",
+            event.shortfall,
+            words::shortfall_seconds(s, event.shortfall)
+        ),
+        _ => format!("{why}; only sags are scored."),
+    }
+}
