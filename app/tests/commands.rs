@@ -1,6 +1,6 @@
 //! Each command as people and programs use it.
 mod common;
-use common::{blocks, csv, k2, listed, Folder, KNOWN};
+use common::{blocks, csv, k2, listed, rows, Folder, KNOWN, MISSING};
 
 const COMMANDS: [&str; 8] = ["demo", "new", "check", "add", "list", "show", "report", "explain"];
 
@@ -94,6 +94,42 @@ fn list_takes_several_recordings() {
     assert_eq!(lines.len(), 3, "{told}");
     assert!(lines[1].starts_with("\"one, two.csv\",5,2,3,0,1,0,1,1,sag,1,4,0.01,3,"), "{told}");
     assert!(lines[2].starts_with("b.csv,1,0,1,0,1,0,1,1,sag,0,1,0,0,"), "{told}");
+}
+
+/// What nobody saw must not vanish: a recording without events has a row too, and every row its recording's half-cycles.
+#[test]
+fn a_recording_without_events_has_a_row() {
+    let folder = Folder::new("list-none");
+    folder.write("unseen.csv", csv(&[MISSING; 72]));
+    folder.write("healthy.csv", csv(&blocks(&[1000; 6])));
+    let mut gap = blocks(&[1000, 1000, 500, 500, 500, 500, 1000, 1000]);
+    gap[48] = MISSING;
+    folder.write("gap.csv", csv(&gap));
+    let files = ["unseen.csv", "healthy.csv", "gap.csv"];
+    for command in ["list", "explain"] {
+        let rows = rows(&folder.accepted(&[&[command, "--csv"][..], &files, &KNOWN].concat()).replace(", ", "; "));
+        let told: Vec<_> = rows
+            .iter()
+            .map(|row| {
+                let halves = ["total", "healthy", "disturbed", "unknown"].map(|name| row.number(name));
+                (row.field("recording"), halves, row.field("kind"), row.field("kind_word"), row.field("seen"))
+            })
+            .collect();
+        let wanted = [
+            ("unseen.csv", [5, 0, 0, 5], "0", "none", ""),
+            ("healthy.csv", [5, 5, 0, 0], "0", "none", ""),
+            ("gap.csv", [7, 2, 3, 2], "1", "sag", "1"),
+            ("gap.csv", [7, 2, 3, 2], "1", "sag", "2"),
+        ];
+        assert_eq!(told, wanted, "{command}");
+        assert!(rows.iter().all(|row| row.whole()), "{command}");
+        let text = folder.accepted(&[&[command][..], &files, &KNOWN].concat());
+        assert!(text.contains("5 unknown; 0 events\n  Nobody saw it: all 5 half-cycles are unknown."), "{text}");
+        assert_eq!(text.matches("Nobody saw").count(), 1, "{text}");
+    }
+    let json = folder.accepted(&[&["list", "unseen.csv", "--json"][..], &KNOWN].concat());
+    let halves = "\"half_cycles\":{\"total\":5,\"healthy\":0,\"disturbed\":0,\"unknown\":5}";
+    assert!(json.contains(&format!("\"recording\":\"unseen.csv\",{halves}")), "{json}");
 }
 
 #[test]

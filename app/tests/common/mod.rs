@@ -132,6 +132,11 @@ impl Row {
         &self.fields[self.head.iter().position(|n| n == name).unwrap_or_else(|| panic!("no {name}"))]
     }
 
+    /// Whether it has a field for each name of the head.
+    pub fn whole(&self) -> bool {
+        self.fields.len() == self.head.len()
+    }
+
     pub fn number(&self, name: &str) -> u64 {
         self.field(name).parse().unwrap_or_else(|_| panic!("{name}: {:?}", self.fields))
     }

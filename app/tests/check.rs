@@ -1,0 +1,232 @@
+//! `check`: what is wrong with the settings or with a channel is told before anything is added, and `add` warns.
+mod common;
+use common::{blocks, csv, k2, raw, rows, Folder, KNOWN, MISSING};
+use std::f64::consts::TAU;
+
+/// Forty half cycles of three sines: samples per cycle, and the peak of each channel.
+fn sines(n: usize, peaks: [f64; 3]) -> Vec<i32> {
+    let sample = |at: usize, channel: usize| {
+        let angle = TAU * (at as f64 / n as f64 - channel as f64 / 3.0);
+        (peaks[channel] * angle.sin()).round() as i32
+    };
+    (0..20 * n).flat_map(|at| [0, 1, 2].map(|channel| sample(at, channel))).collect()
+}
+
+/// Three sines of 10,000 rms with 64 samples to a cycle.
+fn good() -> Vec<i32> {
+    sines(64, [10_000.0 * 2f64.sqrt(); 3])
+}
+
+const FIT: [&str; 6] = ["--n", "64", "--r", "10000", "--f", "50"];
+
+/// What `check` says of a recording under settings that fit the good one, on one line.
+fn checked(folder: &Folder, samples: &[i32], settings: &[&str]) -> String {
+    folder.write("k.i32", raw(samples));
+    let ran = folder.run(&[&["check", "k.i32"][..], settings].concat());
+    assert!(ran.status == 0 && ran.err.is_empty(), "{ran:?}");
+    ran.out.split_whitespace().collect::<Vec<_>>().join(" ")
+}
+
+fn says(told: &str, sentences: &[&str]) {
+    for words in sentences {
+        assert!(told.contains(words), "{words}: {told}");
+    }
+}
+
+#[test]
+fn a_good_recording_fits() {
+    let folder = Folder::new("check-good");
+    let told = checked(&folder, &good(), &FIT);
+    says(
+        &told,
+        &[
+            "k.i32: 1280 samples of each channel = 39 half-cycles (0.390 s)",
+            "a 100.0 100.0 100.0 0 0 1 64.0 b 100.0 100.0 100.0 0 0",
+            "N 64 fits the period of a, b and c.",
+            "The length fits: a whole number of half cycles of 32 samples.",
+            "It would be accepted.",
+        ],
+    );
+    assert!(!told.contains("Warning"), "{told}");
+    folder.accepted(&[&["new", "x.site"][..], &FIT].concat());
+    assert_eq!(checked(&folder, &good(), &["--site", "x.site"]), told, "the settings of a site");
+}
+
+/// R given as the peak: everything stands at 70.7 percent.
+#[test]
+fn a_wrong_reference_is_told() {
+    let folder = Folder::new("check-reference");
+    let told = checked(&folder, &good(), &["--n", "64", "--r", "14142", "--f", "50"]);
+    says(
+        &told,
+        &[
+            "Warning: channel a: the median rms is 70.7 % of R, outside 80 to 120 %: is R 14142 the rms value in sample units, \
+             and not the peak? 10000 would make it 100 %.",
+            "channel b: the median rms is 70.7 %",
+            "channel c: the median rms is 70.7 %",
+        ],
+    );
+    let low = sines(64, [10_000.0 * 2f64.sqrt(), 7_990.0 * 2f64.sqrt(), 8_010.0 * 2f64.sqrt()]);
+    let told = checked(&folder, &low, &FIT);
+    says(&told, &["channel b: the median rms is 79.9 %"]);
+    assert_eq!(told.matches("Warning").count(), 1, "{told}");
+}
+
+/// A sag leaves the median alone, and shows in the range.
+#[test]
+fn the_median_and_the_range() {
+    let folder = Folder::new("check-range");
+    let mut samples = good();
+    samples[600..1_560].iter_mut().for_each(|sample| *sample /= 2);
+    let told = checked(&folder, &samples, &FIT);
+    says(&told, &["a 100.0 50.0 100.0 0 0", "N 64 fits the period"]);
+    assert!(!told.contains("Warning"), "{told}");
+}
+
+#[test]
+fn missing_dead_stuck_and_unseen_channels_are_told() {
+    let folder = Folder::new("check-channels");
+    let mut samples = good();
+    for at in 0..1280 {
+        samples[3 * at + 1] = if at % 2 == 0 { 3 } else { -3 };
+        if at >= 200 && at < 328 {
+            samples[3 * at + 2] = 1234;
+        }
+        if at >= 700 && at < 707 {
+            samples[3 * at] = MISSING;
+        }
+    }
+    let told = checked(&folder, &samples, &FIT);
+    says(
+        &told,
+        &[
+            "a 100.0 100.0 100.0 7 0 1 64.0",
+            "b 0.0 0.0 0.0 0 0 1 2.0",
+            "Warning: channel b is dead: it never reaches 5 % of R.",
+            "Warning: channel c is stuck: 128 samples in a row are 1234 (2.0 cycles), from its sample 200 on.",
+        ],
+    );
+    assert_eq!(told.matches("Warning").count(), 2, "{told}");
+    samples.iter_mut().step_by(3).for_each(|a| *a = MISSING);
+    let told = checked(&folder, &samples, &FIT);
+    says(
+        &told,
+        &["a unseen unseen unseen 1280 0 0 none", "Warning: channel a: no half-cycle is whole, so nobody saw it."],
+    );
+    // The known answers' blocks don't swing, and a channel that stands still is stuck.
+    let told = checked(&folder, &blocks(&[1000; 6]), &KNOWN);
+    says(
+        &told,
+        &["Whether N 8 fits can't be told: no channel swings.", "channel a is stuck: 24 samples in a row are 1000"],
+    );
+}
+
+/// The period is seen through noise, harmonics, an offset and a gap, for any N.
+#[test]
+fn an_n_that_is_not_the_period_is_told() {
+    let folder = Folder::new("check-period");
+    let told = checked(&folder, &good(), &["--n", "128", "--r", "10000", "--f", "50"]);
+    says(
+        &told,
+        &[
+            "N 128 does not fit the period of the samples.",
+            "Warning: N 128 does not fit: a cycle of channel a is 64.0 samples long.",
+        ],
+    );
+    let told = checked(&folder, &sines(256, [14_142.0; 3]), &FIT);
+    says(&told, &["a cycle of channel c is 256.0 samples long"]);
+    for n in [8, 10, 60, 512] {
+        let mut samples = sines(n, [14_142.0; 3]);
+        for (at, sample) in samples.iter_mut().enumerate() {
+            let angle = TAU * (at / 3) as f64 / n as f64;
+            *sample += (900.0 * (3.0 * angle).sin()) as i32 + (at as i32 * 7_919 % 601 - 300) + 2_000;
+        }
+        samples[300..340].fill(MISSING);
+        let n = n.to_string();
+        let told = checked(&folder, &samples, &["--n", &n, "--r", "10000", "--f", "50"]);
+        says(&told, &[&format!("N {n} fits the period of a, b and c.")]);
+    }
+}
+
+/// What the library would turn away is measured all the same, told with its refusal, and ends with status 1.
+#[test]
+fn what_would_be_refused_is_told() {
+    let folder = Folder::new("check-refused");
+    let cases: [(Vec<i32>, u64, u64, &str); 5] = [
+        (
+            good()[..3 * 1277].to_vec(),
+            4,
+            0,
+            "the length does not fit: each channel has 29 samples over after the last whole half",
+        ),
+        (good()[..3 * 63].to_vec(), 3, 0, "63 samples of each channel"),
+        (good()[..3 * 1280 - 1].to_vec(), 2, 0, "1279 samples of each channel"),
+        ([&good()[..], &[100_001; 96]].concat(), 6, 3840, "a 100.0 100.0 100.0 0 32"),
+        (blocks(&vec![100; 100_100]), 5, 0, "half-cycles ("),
+    ];
+    for (samples, number, place, words) in cases {
+        folder.write("k.i32", raw(&samples));
+        let settings = if number == 5 { KNOWN } else { FIT };
+        let ran = folder.refused(&[&["check", "k.i32"][..], &settings].concat(), number, place);
+        let told = ran.out.split_whitespace().collect::<Vec<_>>().join(" ");
+        says(&told, &[words, &format!("It would be refused: refusal {number}, place {place}: ")]);
+        let json = folder.refused(&[&["check", "k.i32", "--json"][..], &settings].concat(), number, place).out;
+        assert!(json.contains(&format!("\"refused\":{{\"number\":{number},\"place\":{place},")), "{json}");
+    }
+    folder.refused(&["check", "k.i32", "--n", "9", "--r", "10000", "--f", "50"], 1, 1);
+    folder.bad(&["check", "none.csv", "--n", "8", "--r", "1000", "--f", "50"], "none.csv: ");
+    folder.bad(&["check", "k.i32"], "--n is wanting");
+}
+
+#[test]
+fn check_for_programs() {
+    let folder = Folder::new("check-programs");
+    let mut samples = good();
+    samples[300] = MISSING;
+    folder.write("k.i32", raw(&samples));
+    let csv = folder.accepted(&[&["check", "k.i32", "--csv"][..], &FIT].concat());
+    let rows = rows(&csv);
+    assert_eq!(rows.len(), 3, "{csv}");
+    let channels: Vec<&str> = rows.iter().map(|row| row.field("channel")).collect();
+    assert_eq!(channels, ["a", "b", "c"]);
+    assert_eq!((rows[0].number("missing"), rows[1].number("missing"), rows[0].number("half_cycles")), (1, 0, 39));
+    assert_eq!(
+        (rows[2].field("median_percent"), rows[2].field("period"), rows[2].field("warnings")),
+        ("100.0", "64.0", "0")
+    );
+    let json = folder.accepted(&[&["check", "k.i32", "--json"][..], &FIT].concat());
+    assert!(json.contains("\"recording\":\"k.i32\",\"samples\":1280,\"half_cycles\":39,\"seconds\":0.39,\"over\":0,\"channels\":[{\"channel\":\"a\",\"median_percent\":"), "{json}");
+    assert!(json.ends_with("\"warnings\":[],\"refused\":null}]}\n"), "{json}");
+}
+
+/// `check` adds nothing; `add` adds, and says on standard error where the median lies outside 80 to 120 percent of R.
+#[test]
+fn add_warns_of_a_wrong_reference() {
+    let folder = Folder::new("check-add");
+    folder.accepted(&["new", "peak.site", "--n", "64", "--r", "14142", "--f", "50"]);
+    folder.accepted(&[&["new", "fit.site"][..], &FIT].concat());
+    folder.write("k.i32", raw(&good()));
+    let before = folder.read("peak.site");
+    folder.accepted(&["check", "k.i32", "--site", "peak.site"]);
+    assert_eq!(folder.read("peak.site"), before);
+    let ran = folder.run(&["add", "peak.site", "k.i32", "--json"]);
+    let wanted =
+        "burrcradle: warning: k.i32: the median rms lies outside 80 to 120 % of R: a 70.7 %, b 70.7 %, c 70.7 %.";
+    assert!(ran.status == 0 && ran.err.starts_with(wanted) && ran.err.lines().count() == 1, "{ran:?}");
+    assert_eq!(folder.counted("peak.site", "total"), 39);
+    let ran = folder.run(&["add", "fit.site", "k.i32"]);
+    assert_eq!((ran.status, ran.err.as_str()), (0, ""));
+    // One channel is enough, and a channel that nobody saw does not hide the others.
+    let mut samples = good();
+    samples.iter_mut().step_by(3).for_each(|a| *a = MISSING);
+    samples.iter_mut().skip(2).step_by(3).for_each(|c| *c *= 2);
+    folder.write("k.i32", raw(&samples));
+    let ran = folder.run(&["add", "fit.site", "k.i32"]);
+    assert!(ran.status == 0 && ran.err.contains("a unseen, b 100.0 %, c 200.0 %"), "{ran:?}");
+    folder.write("k.csv", csv(&[MISSING; 3 * 640]));
+    let ran = folder.run(&["add", "fit.site", "k.csv"]);
+    assert!(ran.status == 0 && ran.err.contains("warning: k.csv: nobody saw any of it"), "{ran:?}");
+    // A refused recording is refused and no more.
+    folder.write("bad.csv", csv(&k2()[..27]));
+    assert!(!folder.refused(&["add", "fit.site", "bad.csv"], 3, 0).err.contains("warning"));
+}
