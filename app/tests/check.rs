@@ -173,6 +173,10 @@ fn what_would_be_refused_is_told() {
         let json = folder.refused(&[&["check", "k.i32", "--json"][..], &settings].concat(), number, place).out;
         assert!(json.contains(&format!("\"refused\":{{\"number\":{number},\"place\":{place},")), "{json}");
     }
+    let ran = folder.refused(&[&["check", "k.i32"][..], &KNOWN].concat(), 5, 0);
+    assert!(ran.err.contains("--cut cuts it into parts"), "{ran:?}");
+    let told = folder.accepted(&[&["check", "k.i32", "--cut"][..], &KNOWN].concat());
+    assert!(told.contains("It would be accepted."), "{told}");
     folder.refused(&["check", "k.i32", "--n", "9", "--r", "10000", "--f", "50"], 1, 1);
     folder.bad(&["check", "none.csv", "--n", "8", "--r", "1000", "--f", "50"], "none.csv: ");
     folder.bad(&["check", "k.i32"], "--n is wanting");

@@ -92,8 +92,8 @@ fn list_takes_several_recordings() {
     let told = folder.accepted(&[&["list", "one, two.csv", "b.csv", "--csv"][..], &KNOWN].concat());
     let lines: Vec<&str> = told.lines().collect();
     assert_eq!(lines.len(), 3, "{told}");
-    assert!(lines[1].starts_with("\"one, two.csv\",5,2,3,0,1,0,1,1,sag,1,4,0.01,3,"), "{told}");
-    assert!(lines[2].starts_with("b.csv,1,0,1,0,1,0,1,1,sag,0,1,0,0,"), "{told}");
+    assert!(lines[1].starts_with("\"one, two.csv\",5,2,3,0,1,0,1,1,sag,1,4,0.01,3,0,"), "{told}");
+    assert!(lines[2].starts_with("b.csv,1,0,1,0,1,0,1,1,sag,0,1,0,0,0,"), "{told}");
 }
 
 /// What nobody saw must not vanish: a recording without events has a row too, and every row its recording's half-cycles.

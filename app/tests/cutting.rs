@@ -133,6 +133,8 @@ fn what_a_cut_splits_is_named() {
         "\"cuts\":[{\"half_cycle\":9,\"seconds\":0.09,\"splits\":[]},{\"half_cycle\":100009,\"seconds\":1000.09,\
                 \"splits\":[{\"kind\":1,\"kind_word\":\"sag\",\"start\":10,\"end\":150001}]}]";
     assert!(json.contains(cuts), "{}", &json[..600]);
+    let lost = rows(&folder.accepted(&list("long.i32", &["--cut", "--csv"])));
+    assert_eq!(lost.iter().map(|row| row.number("cut")).collect::<Vec<_>>(), [2, 1], "the end, the start");
     let (events, halves) = listed(&folder, "long.i32");
     let short: Vec<_> = events.iter().map(|e| (e[1], e[2], e[3])).collect();
     assert_eq!(short, [(10, 100_009, 1), (100_009, 150_001, 2)]);

@@ -131,6 +131,17 @@ impl Answer {
         all
     }
 
+    /// Which ends of an event a cut has taken: 1 for the start plus 2 for the end.
+    pub fn lost(&self, event: &Found) -> u64 {
+        let splits = self.cuts.iter().flat_map(|cut| cut.splits.iter().map(move |split| (cut.at, split)));
+        let lost = splits.filter(|(_, split)| split.kind == event.kind).map(|(at, split)| {
+            let start = event.start == at && split.end == Some(event.end);
+            let end = event.end == at && split.start == Some(event.start);
+            u64::from(start) + 2 * u64::from(end)
+        });
+        lost.sum()
+    }
+
     /// Every event with its part and its number there, from 1.
     pub fn events(&self) -> impl Iterator<Item = (&Part, usize, &Found)> {
         let numbered = |part| move |(at, event)| (part, at + 1, event);

@@ -1,5 +1,5 @@
 //! Measuring a recording: what can be seen of it before the rules are asked.
-use super::halves;
+use super::{cut, halves};
 use crate::{
     answered::measured::{Channel, Held, Measured, Spread},
     reading::recording::{Recording, MISSING},
@@ -9,12 +9,13 @@ use host::{Refused, Settings};
 /// The largest sample that the rules allow.
 const LARGEST: u32 = 100_000;
 
-/// Measures a recording under good settings.
-pub fn measure(s: &Settings, recording: &Recording) -> Measured {
+/// Measures a recording under good settings; `cut` is how it would be added.
+pub fn measure(s: &Settings, recording: &Recording, cut: bool) -> Measured {
     let samples = &recording.samples;
     let (length, half) = (samples.len() as u64 / 3, s.n / 2);
     let refused = match host::list(s, samples, &mut []) {
         Ok(_) | Err(Refused { number: 7, .. }) => None,
+        Err(Refused { number: 5, .. }) if cut => cut::cutting(s, samples, cut).err(),
         Err(refused) => Some(refused),
     };
     Measured {

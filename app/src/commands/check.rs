@@ -11,23 +11,27 @@ use crate::{
     },
     terminal::{Progress, Said},
 };
+use host::Refused;
 
 pub const TAKES: Takes = Takes {
     files: &["RECORDING"],
     many: true,
     values: &["--site", "--n", "--r", "--f", "--sag", "--interruption", "--swell", "--hysteresis"],
-    flags: &["--raw", "--json", "--csv"],
+    flags: &["--cut", "--raw", "--json", "--csv"],
 };
 
 pub fn run(args: &Args) -> Result<Said, Failure> {
     let (format, s) = (args.format()?, args.settings_or_site()?);
-    let refusal = |what: &str, refused| Failure::Refused(Refusal { what: what.into(), refused, more: String::new() });
+    let refusal = |what: &str, refused: Refused| {
+        let more = if refused.number == 5 { "--cut cuts it into parts" } else { "" };
+        Failure::Refused(Refusal { what: what.into(), refused, more: more.into() })
+    };
     host::fresh(&s).0.map_err(|refused| refusal("the settings", refused))?;
     let mut measured = Vec::new();
     for file in &args.files {
         let _progress = Progress::on(&format!("checking {}", reading::name(file)));
         let recording = reading::read(file, How { raw: args.flag("--raw"), fingerprint: false })?;
-        measured.push(measure::measure(&s, &recording));
+        measured.push(measure::measure(&s, &recording, args.flag("--cut")));
     }
     let text = match format {
         Format::Text => {

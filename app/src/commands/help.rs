@@ -55,7 +55,7 @@ Example:
 
 pub const CHECK: &str = "\
 burrcradle check RECORDING... (--site SITE | --n N --r R --f F [--sag 90] [--interruption 10] [--swell 110]
-                 [--hysteresis 2]) [--raw] [--json | --csv]
+                 [--hysteresis 2]) [--cut] [--raw] [--json | --csv]
 
 Tells whether recordings fit the settings, before anything is added: the rms of each channel in percent of R (median and
 range over the half-cycles), its missing samples and those out of range, its longest run of one value, the period of its
@@ -65,6 +65,7 @@ is not the period, and says whether the recording would be refused. Warnings lea
 would be refused makes it 1.
 
     --site    takes the settings of a site
+    --cut     judges a recording of more than 100,000 half-cycles as `add --cut` would
     --raw     reads recordings as raw 32-bit samples whatever their names, standard input too
 
 Example:

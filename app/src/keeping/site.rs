@@ -127,16 +127,16 @@ fn open(path: &Path) -> Result<(File, Metadata), Failure> {
 
 /// Locks a site that exists.
 pub fn lock(path: &Path, wait: Duration) -> Result<Locked, Failure> {
-    let real = fs::canonicalize(path).map_err(|e| Failure::file(path.display(), e))?;
     let began = Instant::now();
     loop {
+        let real = fs::canonicalize(path).map_err(|e| Failure::file(path.display(), e))?;
         let (file, found) = open(path)?;
         match file.try_lock() {
             // Whoever had the lock may have put a new file in its place meanwhile: then that one is to be locked.
             Ok(()) if fs::metadata(&real).is_ok_and(|now| (now.dev(), now.ino()) == (found.dev(), found.ino())) => {
                 return Ok(Locked { name: path.display().to_string(), path: real, found, _lock: file });
             }
-            Ok(()) => continue,
+            Ok(()) => {}
             Err(TryLockError::Error(e)) => {
                 return Err(Failure::file(path.display(), format!("can't be locked: {e}")));
             }

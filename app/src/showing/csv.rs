@@ -17,7 +17,7 @@ pub fn line(fields: &[String]) -> String {
 
 /// What a row says of its recording, and then of its event.
 const RECORDING: [&str; 5] = ["recording", "total", "healthy", "disturbed", "unknown"];
-const EVENT: [&str; 19] = [
+const EVENT: [&str; 20] = [
     "part",
     "first_half_cycle",
     "event",
@@ -27,6 +27,7 @@ const EVENT: [&str; 19] = [
     "end",
     "start_seconds",
     "seen",
+    "cut",
     "extreme",
     "retained",
     "shortfall",
@@ -39,8 +40,8 @@ const EVENT: [&str; 19] = [
     "energy",
 ];
 
-/// The events of recordings, one to a line, each with its recording's half-cycles; severity and energy are empty where
-/// there is no score. A recording without events has one line too, of kind 0: what nobody saw must not vanish. `told`
+/// The events of recordings, one to a line, each with its recording's half-cycles and with the ends that a cut has taken (1
+/// for the start plus 2 for the end); severity and energy are empty where there is no score. A recording without events has one line too, of kind 0: what nobody saw must not vanish. `told`
 /// adds the sentences of `explain`.
 pub fn events(s: &Settings, answers: &[Answer], told: bool) -> String {
     let mut head = [&RECORDING[..], &EVENT].concat();
@@ -57,7 +58,7 @@ pub fn events(s: &Settings, answers: &[Answer], told: bool) -> String {
             out += &line(&[&recording[..], &fields].concat());
         };
         for (part, number, event) in answer.events() {
-            let mut fields = fields(s, part, number, event);
+            let mut fields = fields(s, part, number, event, answer.lost(event));
             if told {
                 fields.extend(explain::told(s, answer, part, event));
             }
@@ -70,12 +71,12 @@ pub fn events(s: &Settings, answers: &[Answer], told: bool) -> String {
     out
 }
 
-fn fields(s: &Settings, part: &Part, number: usize, event: &Found) -> Vec<String> {
+fn fields(s: &Settings, part: &Part, number: usize, event: &Found, lost: u64) -> Vec<String> {
     let class = if event.kind == 1 { words::class(event.class) } else { "" };
     let mut fields = [part.number as u64, part.first_half, number as u64, event.kind].map(|n| n.to_string()).to_vec();
     fields.extend([words::kind(event.kind).into(), event.start.to_string(), event.end.to_string()]);
     fields.push(words::exact_seconds(event.start, s.f).to_string());
-    let numbers = [event.seen, event.extreme, event.retained, event.shortfall, event.class];
+    let numbers = [event.seen, lost, event.extreme, event.retained, event.shortfall, event.class];
     fields.extend(numbers.map(|n| n.to_string()));
     fields.extend([class.into(), event.reason.to_string(), words::reason(event.reason).into(), event.cell.to_string()]);
     let score = event.score.map(|score| [score.severity, score.energy].map(|x| x.to_string()));

@@ -65,9 +65,15 @@ pub fn cut_note(s: &Settings, answer: &Answer) -> String {
         answer.name,
         answer.parts.len()
     );
-    if !clean.is_empty() {
-        let places: Vec<String> = clean.iter().map(|cut| place(cut)).collect();
-        said += &format!(" No event reaches over the cut at {}.", places.join(", "));
+    match clean.len() {
+        0 => {}
+        few @ 1..=4 => {
+            let places: Vec<String> = clean.iter().map(|cut| place(cut)).collect();
+            let cuts = if few == 1 { "cut" } else { "cuts" };
+            let places = words::and(&places.iter().map(String::as_str).collect::<Vec<_>>());
+            said += &format!(" No event reaches over the {cuts} at {places}.");
+        }
+        many => said += &format!(" No event reaches over {many} of the cuts."),
     }
     for cut in forced {
         said += &format!(" {}", words::splits(cut, &place(cut)));

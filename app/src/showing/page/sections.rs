@@ -96,23 +96,30 @@ fn relation(contents: &Contents) -> String {
         "The table is what the site's file held when this page was made. The page shows the recordings below \
                     under the table's settings and adds nothing to it: they need not be in it."
             .to_string();
-    let all = contents.recordings.iter().map(|shown| shown.answer.counts());
-    let sum = |of: fn(&Counts) -> u64| all.clone().map(|c| of(&c)).sum::<u64>();
-    let c = table::counts(contents.table);
-    let counts = [
-        ("half-cycle", c.total, sum(|c| c.total)),
-        ("healthy half-cycle", c.healthy, sum(|c| c.healthy)),
-        ("disturbed half-cycle", c.disturbed, sum(|c| c.disturbed)),
-        ("unknown half-cycle", c.unknown, sum(|c| c.unknown)),
-        ("sag", c.sags, sum(|c| c.sags)),
-        ("interruption", c.interruptions, sum(|c| c.interruptions)),
-        ("swell", c.swells, sum(|c| c.swells)),
-    ];
-    let short = counts.iter().rev().find(|(_, counted, shown)| counted < shown);
-    if let Some((what, counted, shown)) = short {
-        said += &format!(" They are not all in it: it counts {}, and they have {shown}.", words::count(*counted, what));
+    if let Some((what, counted, shown)) = short(contents) {
+        said += &format!(" They are not all in it: it counts {counted} {what}, and they have {shown}.");
     }
     said
+}
+
+/// Something of which the recordings have more than the table counts: they can't all be in it then.
+fn short(contents: &Contents) -> Option<(String, u64, u64)> {
+    let own = || contents.recordings.iter().flat_map(|shown| &shown.answer.parts).map(|part| &part.own);
+    let counts = |of: fn(&Counts) -> u64| {
+        (of(&table::counts(contents.table)), own().map(|own| of(&table::counts(own))).sum::<u64>())
+    };
+    let cell = |at: usize| (table::cells(contents.table)[at], own().map(|own| table::cells(own)[at]).sum::<u64>());
+    let mut all = vec![
+        ("sags".to_string(), counts(|c| c.sags)),
+        ("interruptions".into(), counts(|c| c.interruptions)),
+        ("swells".into(), counts(|c| c.swells)),
+        ("unplaced sags".into(), counts(|c| c.unplaced)),
+        ("unknown half-cycles".into(), counts(|c| c.unknown)),
+        ("disturbed half-cycles".into(), counts(|c| c.disturbed)),
+        ("healthy half-cycles".into(), counts(|c| c.healthy)),
+    ];
+    all.extend((0..table::cells(contents.table).len()).map(|at| (format!("sags in cell {at}"), cell(at))));
+    all.into_iter().find(|(_, (counted, shown))| counted < shown).map(|(what, (counted, shown))| (what, counted, shown))
 }
 
 fn scatter_section(s: &Settings, contents: &Contents) -> String {
