@@ -60,15 +60,13 @@ fn a_wrong_reference_is_told() {
     says(
         &told,
         &[
-            "Warning: channel a: the median rms is 70.7 % of R, outside 80 to 120 %: is R 14142 the rms value in sample units, \
-             and not the peak? 10000 would make it 100 %.",
-            "channel b: the median rms is 70.7 %",
-            "channel c: the median rms is 70.7 %",
+            "Warning: the median rms lies outside 80 to 120 % of R (70.7 % on a, 70.7 % on b and 70.7 % on c): is R 14142 the rms \
+             value in sample units, and not the peak? 10000 would make a 100 %.",
         ],
     );
     let low = sines(64, [10_000.0 * 2f64.sqrt(), 7_990.0 * 2f64.sqrt(), 8_010.0 * 2f64.sqrt()]);
     let told = checked(&folder, &low, &FIT);
-    says(&told, &["channel b: the median rms is 79.9 %"]);
+    says(&told, &["Warning: the median rms lies outside 80 to 120 % of R (79.9 % on b): is R"]);
     assert_eq!(told.matches("Warning").count(), 1, "{told}");
 }
 
@@ -89,10 +87,10 @@ fn missing_dead_stuck_and_unseen_channels_are_told() {
     let mut samples = good();
     for at in 0..1280 {
         samples[3 * at + 1] = if at % 2 == 0 { 3 } else { -3 };
-        if at >= 200 && at < 328 {
+        if (200..328).contains(&at) {
             samples[3 * at + 2] = 1234;
         }
-        if at >= 700 && at < 707 {
+        if (700..707).contains(&at) {
             samples[3 * at] = MISSING;
         }
     }
@@ -102,23 +100,17 @@ fn missing_dead_stuck_and_unseen_channels_are_told() {
         &[
             "a 100.0 100.0 100.0 7 0 1 64.0",
             "b 0.0 0.0 0.0 0 0 1 2.0",
-            "Warning: channel b is dead: it never reaches 5 % of R.",
-            "Warning: channel c is stuck: 128 samples in a row are 1234 (2.0 cycles), from its sample 200 on.",
+            "Warning: dead: b never reaches 5 % of R.",
+            "Warning: stuck: 128 samples of c in a row are 1234 (2.0 cycles), from its sample 200 on.",
         ],
     );
     assert_eq!(told.matches("Warning").count(), 2, "{told}");
     samples.iter_mut().step_by(3).for_each(|a| *a = MISSING);
     let told = checked(&folder, &samples, &FIT);
-    says(
-        &told,
-        &["a unseen unseen unseen 1280 0 0 none", "Warning: channel a: no half-cycle is whole, so nobody saw it."],
-    );
+    says(&told, &["a unseen unseen unseen 1280 0 0 none", "Warning: nobody saw a: no half-cycle there is whole."]);
     // The known answers' blocks don't swing, and a channel that stands still is stuck.
     let told = checked(&folder, &blocks(&[1000; 6]), &KNOWN);
-    says(
-        &told,
-        &["Whether N 8 fits can't be told: no channel swings.", "channel a is stuck: 24 samples in a row are 1000"],
-    );
+    says(&told, &["Whether N 8 fits can't be told: no channel swings.", "stuck: 24 samples of a in a row are 1000"]);
 }
 
 /// The period is seen through noise, harmonics, an offset and a gap, for any N.
@@ -130,11 +122,11 @@ fn an_n_that_is_not_the_period_is_told() {
         &told,
         &[
             "N 128 does not fit the period of the samples.",
-            "Warning: N 128 does not fit: a cycle of channel a is 64.0 samples long.",
+            "Warning: N 128 does not fit: in samples a cycle is 64.0 on a, 64.0 on b and 64.0 on c.",
         ],
     );
     let told = checked(&folder, &sines(256, [14_142.0; 3]), &FIT);
-    says(&told, &["a cycle of channel c is 256.0 samples long"]);
+    says(&told, &["256.0 on c."]);
     for n in [8, 10, 60, 512] {
         let mut samples = sines(n, [14_142.0; 3]);
         for (at, sample) in samples.iter_mut().enumerate() {

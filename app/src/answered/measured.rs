@@ -41,18 +41,18 @@ pub struct Held {
     pub samples: u64,
 }
 
-/// What is odd about a recording. The channel is 0 for a.
+/// What is odd about a recording. Channels are numbered from 0, which is a.
 pub enum Odd {
-    /// No half-cycle of the channel is whole: nobody saw it.
-    Unseen(usize),
-    /// The channel never reaches 5 percent of R.
-    Dead(usize),
-    /// The channel holds one value for a cycle or longer.
+    /// Channels of which no half-cycle is whole: nobody saw them.
+    Unseen(Vec<usize>),
+    /// Channels that never reach 5 percent of R.
+    Dead(Vec<usize>),
+    /// A channel that holds one value for a cycle or longer.
     Stuck(usize, Held),
-    /// The median lies outside 80 to 120 percent of R.
-    Reference(usize, f64),
-    /// A cycle of the samples is not N long.
-    Period(usize, f64),
+    /// Channels whose median lies outside 80 to 120 percent of R, and the medians.
+    Reference(Vec<(usize, f64)>),
+    /// Channels on which a cycle is not N samples long, and how long it is.
+    Period(Vec<(usize, f64)>),
     /// The length is no multiple of N/2.
     Over(u64),
 }
@@ -60,30 +60,39 @@ pub enum Odd {
 /// Where the median of a channel's rms should lie, in percent of R.
 pub const USUAL: (f64, f64) = (80.0, 120.0);
 /// A channel that is never above this, in percent of R, is dead.
-const DEAD: f64 = 5.0;
+pub const DEAD: f64 = 5.0;
 /// How far a cycle may be from N, as a share of it.
 const SLACK: f64 = 0.02;
 
 impl Measured {
-    /// What is odd, channel by channel and then about the whole. Where a channel is unseen or dead, nothing else is said of it.
+    /// What is odd. Of a channel that is unseen or dead nothing else is said.
     pub fn odd(&self, s: &Settings) -> Vec<Odd> {
-        let mut odd = Vec::new();
-        for (at, channel) in self.channels.iter().enumerate() {
-            match &channel.rms {
-                None => odd.push(Odd::Unseen(at)),
-                Some(rms) if rms.greatest < DEAD => odd.push(Odd::Dead(at)),
-                Some(rms) => {
-                    if channel.held.samples >= s.n {
-                        odd.push(Odd::Stuck(at, channel.held));
-                    }
-                    odd.extend(off_reference(rms.median).then_some(Odd::Reference(at, rms.median)));
-                    let misfit = |period: &f64| (period - s.n as f64).abs() > SLACK * s.n as f64;
-                    odd.extend(channel.period.filter(misfit).map(|period| Odd::Period(at, period)));
-                }
-            }
-        }
-        odd.extend((self.over > 0).then_some(Odd::Over(self.over)));
+        let channels = || self.channels.iter().enumerate();
+        let dead = |channel: &Channel| channel.rms.as_ref().is_some_and(|rms| rms.greatest < DEAD);
+        let alive = || channels().filter(|(_, channel)| channel.rms.is_some() && !dead(channel));
+        let off = |period: &f64| (period - s.n as f64).abs() > SLACK * s.n as f64;
+        let medians = alive().filter_map(|(at, c)| c.rms.as_ref().map(|rms| (at, rms.median)));
+        let mut odd = vec![
+            Odd::Unseen(channels().filter(|(_, channel)| channel.rms.is_none()).map(|(at, _)| at).collect()),
+            Odd::Dead(channels().filter(|(_, channel)| dead(channel)).map(|(at, _)| at).collect()),
+        ];
+        odd.extend(alive().filter(|(_, c)| c.held.samples >= s.n).map(|(at, c)| Odd::Stuck(at, c.held)));
+        odd.push(Odd::Reference(medians.filter(|(_, median)| off_reference(*median)).collect()));
+        odd.push(Odd::Period(alive().filter_map(|(at, c)| Some((at, c.period.filter(off)?))).collect()));
+        odd.push(Odd::Over(self.over));
+        odd.retain(|odd| !odd.is_nothing());
         odd
+    }
+}
+
+impl Odd {
+    fn is_nothing(&self) -> bool {
+        match self {
+            Odd::Unseen(channels) | Odd::Dead(channels) => channels.is_empty(),
+            Odd::Reference(channels) | Odd::Period(channels) => channels.is_empty(),
+            Odd::Stuck(..) => false,
+            Odd::Over(over) => *over == 0,
+        }
     }
 }
 

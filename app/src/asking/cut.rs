@@ -73,9 +73,9 @@ impl<'a> Whole<'a> {
     fn cut(&self, one: &Stretch, next: &Stretch) -> Cut {
         let (at, length) = (next.first_half as u64, self.halves_of(one) as u64);
         let known = |k: u64| probe::known(self.s, self.samples, k);
-        let (ends_hide, starts_hide) = (!known(at), !known(at - 1));
-        let reaching = one.events.iter().flatten().filter(|e| e[2] == length && !ends_hide);
-        let going_on = next.events.iter().flatten().filter(|e| e[1] == 0 && !starts_hide);
+        let (last_known, next_known) = (known(at - 1), known(at));
+        let reaching = one.events.iter().flatten().filter(|e| e[2] == length && next_known);
+        let going_on = next.events.iter().flatten().filter(|e| e[1] == 0 && last_known);
         let split = |kind: u64| {
             let start = reaching.clone().find(|e| e[0] == kind).map(|e| one.first_half as u64 + e[1]);
             let end = going_on.clone().find(|e| e[0] == kind).map(|e| at + e[2]);

@@ -157,7 +157,11 @@ impl Locked {
         let beside = Beside::write(&self.path, render(table).as_bytes(), Some(&self.found));
         let saved = beside.and_then(|beside| beside.replace(&self.path));
         saved.map_err(|e| {
-            Failure::file(&self.name, format!("the new table could not be written: {e}; the old one stands"))
+            let more = match e.kind() {
+                ErrorKind::PermissionDenied => " (it is written beside the old one: the folder must let you)",
+                _ => "",
+            };
+            Failure::file(&self.name, format!("the new table could not be written: {e}{more}; the old one stands"))
         })
     }
 }

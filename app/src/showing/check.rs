@@ -6,7 +6,7 @@ use super::{
     text::{columns, wrapped},
     words,
 };
-use crate::answered::measured::{off_reference, Channel, Measured, Odd, USUAL};
+use crate::answered::measured::{off_reference, Channel, Measured, Odd, DEAD, USUAL};
 use host::Settings;
 
 const CHANNELS: [&str; 3] = ["a", "b", "c"];
@@ -33,29 +33,33 @@ pub fn warning(name: &str, medians: [Option<f64>; 3]) -> Option<String> {
 
 /// What is odd, in a sentence.
 fn odd(s: &Settings, odd: &Odd) -> String {
+    let names = |channels: &[usize]| words::and(&channels.iter().map(|at| CHANNELS[*at]).collect::<Vec<_>>());
+    let valued = |channels: &[(usize, f64)], unit: &str| {
+        let told: Vec<String> = channels.iter().map(|(at, x)| format!("{x:.1}{unit} on {}", CHANNELS[*at])).collect();
+        words::and(&told.iter().map(String::as_str).collect::<Vec<_>>())
+    };
     match odd {
-        Odd::Unseen(channel) => format!("channel {}: no half-cycle is whole, so nobody saw it", CHANNELS[*channel]),
-        Odd::Dead(channel) => format!("channel {} is dead: it never reaches 5 % of R", CHANNELS[*channel]),
+        Odd::Unseen(channels) => format!("nobody saw {}: no half-cycle there is whole", names(channels)),
+        Odd::Dead(channels) => format!("dead: {} never reaches {DEAD} % of R", names(channels)),
         Odd::Stuck(channel, held) => format!(
-            "channel {} is stuck: {} samples in a row are {} ({:.1} cycles), from its sample {} on",
-            CHANNELS[*channel],
+            "stuck: {} samples of {} in a row are {} ({:.1} cycles), from its sample {} on",
             held.samples,
+            CHANNELS[*channel],
             held.value,
             held.samples as f64 / s.n as f64,
             held.first
         ),
-        Odd::Reference(channel, median) => format!(
-            "channel {}: the median rms is {median:.1} % of R, outside {} to {} %: is R {} the rms value in sample units, \
-             and not the peak? {:.0} would make it 100 %",
-            CHANNELS[*channel],
+        Odd::Reference(channels) => format!(
+            "the median rms lies outside {} to {} % of R ({}): is R {} the rms value in sample units, and not the peak? {:.0} \
+             would make {} 100 %",
             USUAL.0,
             USUAL.1,
+            valued(channels, " %"),
             s.r,
-            s.r as f64 * median / 100.0
+            s.r as f64 * channels[0].1 / 100.0,
+            CHANNELS[channels[0].0]
         ),
-        Odd::Period(channel, period) => {
-            format!("N {} does not fit: a cycle of channel {} is {period:.1} samples long", s.n, CHANNELS[*channel])
-        }
+        Odd::Period(channels) => format!("N {} does not fit: in samples a cycle is {}", s.n, valued(channels, "")),
         Odd::Over(over) => format!(
             "the length does not fit: each channel has {} over after the last whole half cycle (N/2 = {})",
             words::count(*over, "sample"),
@@ -67,7 +71,7 @@ fn odd(s: &Settings, odd: &Odd) -> String {
 /// A measured recording as text.
 pub fn text(s: &Settings, m: &Measured, paint: &Paint) -> String {
     let mut out = format!(
-        "{}: {} of each channel = {} ({}) under {}\n",
+        "{}: {} of each channel = {} ({})\n  under {}\n",
         paint.bold(&m.name),
         words::count(m.length, "sample"),
         words::count(m.halves, "half-cycle"),
