@@ -1,6 +1,6 @@
 #!/usr/bin/env bash
 # Opens the demo's report in headless Chromium and keeps its picture as docs/report.png, the one that README.md shows.
-# With a folder's name it also leaves there what a person should look at: light, dark, narrow, and the A4 pages.
+# With a folder's name it also leaves there what a person should look at: light, dark, on a phone, and the A4 pages.
 # Not part of the gate: it needs Debian's chromium, and installs it where it may.
 set -euo pipefail
 root=$(cd "$(dirname "$0")/../.." && pwd)
@@ -11,21 +11,23 @@ trap 'rm -rf "$work"' EXIT
 (cd "$root" && cargo build --release --quiet)
 (cd "$work" && "$root/target/release/burrcradle" demo > /dev/null)
 
-# picture FILE WIDTH HEIGHT [OPTION...]
+# picture FILE WIDTH HEIGHT PAGE [OPTION...]
 picture() {
     chromium --headless --no-sandbox --disable-gpu --hide-scrollbars --user-data-dir="$work/profile" \
-        --window-size="$2,$3" --screenshot="$1" "${@:4}" "file://$work/demo.html" > /dev/null 2>&1
+        --allow-file-access-from-files --window-size="$2,$3" --screenshot="$1" "${@:5}" "file://$work/$4" > /dev/null 2>&1
     [ -s "$1" ]
 }
 
 mkdir -p "$root/docs"
-picture "$work/report.png" 1080 2440
+picture "$work/report.png" 1080 2556 demo.html
 mv "$work/report.png" "$root/docs/report.png"
 if [ -n "$looks" ]; then
     mkdir -p "$looks"
-    picture "$looks/light.png" 1080 3200
-    picture "$looks/dark.png" 1080 3200 --blink-settings=preferredColorScheme=0
-    picture "$looks/narrow.png" 500 2600
+    picture "$looks/light.png" 1080 3200 demo.html
+    picture "$looks/dark.png" 1080 3200 demo.html --blink-settings=preferredColorScheme=0
+    # A window is never that narrow; a frame in one is.
+    echo '<body style="margin:0"><iframe src="demo.html" style="width:390px;height:2600px;border:0">' > "$work/phone.html"
+    picture "$looks/phone.png" 390 2600 phone.html
     chromium --headless --no-sandbox --disable-gpu --user-data-dir="$work/profile" --no-pdf-header-footer \
         --print-to-pdf="$looks/a4.pdf" "file://$work/demo.html" > /dev/null 2>&1
 fi

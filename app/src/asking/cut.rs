@@ -29,7 +29,7 @@ pub struct Cutting<'a> {
 pub fn cutting<'a>(s: &'a Settings, samples: &'a [i32], cut: bool) -> Result<Cutting<'a>, Refused> {
     let block = 3 * (s.n as usize / 2);
     match cut.then(|| host::list(s, samples, &mut [])) {
-        Some(Err(Refused { number: 5, .. })) => Whole { s, samples, block, halves: samples.len() / block - 1 }.cut_up(),
+        Some(Err(Refused { number: 5, .. })) => Whole { s, samples, block, most: MOST }.cut_up(),
         _ => {
             let whole = Stretch { first_half: 0, samples, events: None };
             Ok(Cutting { stretches: vec![whole], cuts: Vec::new() })
@@ -43,14 +43,15 @@ struct Whole<'a> {
     samples: &'a [i32],
     /// Samples in half a cycle, all channels.
     block: usize,
-    halves: usize,
+    /// How many half-cycles a part may have.
+    most: usize,
 }
 
 impl<'a> Whole<'a> {
     fn cut_up(&self) -> Result<Cutting<'a>, Refused> {
         let (mut stretches, mut first) = (Vec::new(), 0);
-        while first < self.halves {
-            let stretch = self.ended(self.listed(first, MOST.min(self.halves - first))?);
+        while first < self.halves() {
+            let stretch = self.ended(self.listed(first, self.most.min(self.halves() - first))?);
             first += self.halves_of(&stretch);
             stretches.push(stretch);
         }
@@ -60,7 +61,7 @@ impl<'a> Whole<'a> {
 
     /// The stretch up to its last place between events; all of it where it has none, or is the last.
     fn ended(&self, stretch: Stretch<'a>) -> Stretch<'a> {
-        if stretch.first_half + self.halves_of(&stretch) == self.halves {
+        if stretch.first_half + self.halves_of(&stretch) == self.halves() {
             return stretch;
         }
         let Some(halves) = self.last_place(&stretch) else { return stretch };
@@ -90,6 +91,10 @@ impl<'a> Whole<'a> {
         Stretch { first_half, samples, events: None }
     }
 
+    fn halves(&self) -> usize {
+        self.samples.len() / self.block - 1
+    }
+
     fn halves_of(&self, stretch: &Stretch) -> usize {
         stretch.samples.len() / self.block - 1
     }
@@ -116,5 +121,96 @@ impl<'a> Whole<'a> {
         let next = list(self.s, self.stretch(stretch.first_half + halves, 1).samples, None);
         inside.push(next.is_ok_and(|events| !events.is_empty()));
         (1..=halves).rev().find(|place| !inside[place - 1] && !inside[*place])
+    }
+}
+
+#[cfg(test)]
+mod tests {
+    use super::{Cutting, Stretch, Whole};
+    use crate::answered::table::counts;
+    use host::{Event, Settings};
+    use oracle::{plain, random::Random};
+
+    /// Blocks of half a cycle at levels on and beside the thresholds, held for a while, on one channel or on all, with gaps.
+    fn recording(random: &mut Random, s: &Settings) -> Vec<i32> {
+        let blocks = random.between(10, 120) as usize;
+        let quiet = random.pick(&[1, 2, 4, 12]);
+        let mut samples = Vec::new();
+        while samples.len() < blocks * 12 {
+            let level = match random.below(quiet + 2) {
+                0 => random.pick(&[0, 5, 9, 10, 11, 12, 13, 40, 70, 85, 88, 89]) * s.r as i32 / 100,
+                1 => random.pick(&[90, 91, 92, 93, 105, 108, 109, 110, 111, 130]) * s.r as i32 / 100,
+                _ => s.r as i32,
+            };
+            let three = if random.once_in(3) { [level, s.r as i32, s.r as i32] } else { [level; 3] };
+            (0..4 * random.between(1, 9)).for_each(|_| samples.extend(three));
+        }
+        samples.truncate(blocks * 12);
+        for _ in 0..random.below(4) {
+            let at = random.below(samples.len() as u64) as usize;
+            samples[at] = i32::MIN;
+        }
+        samples
+    }
+
+    /// The events of all parts where they lie in the whole.
+    fn moved_back(cutting: &Cutting) -> Vec<Event> {
+        let moved = |first: u64, [kind, start, end, rest @ ..]: Event| {
+            let [seen, extreme, retained, shortfall, class] = rest;
+            [kind, first + start, first + end, seen, extreme, retained, shortfall, class]
+        };
+        let of = |part: &Stretch| {
+            part.events.iter().flatten().map(|e| moved(part.first_half as u64, *e)).collect::<Vec<_>>()
+        };
+        cutting.stretches.iter().flat_map(of).collect()
+    }
+
+    /// Each cut is at the last place of its stretch, or at its end where there is none. After a cut through an event the rest
+    /// of it may be told as none, and places are those of the parts.
+    fn assert_last_places(cutting: &Cutting, most: usize, events: &[Event]) {
+        let inside = |k: usize| events.iter().any(|e| (e[1]..e[2]).contains(&(k as u64)));
+        let split = cutting.cuts.iter().position(|cut| !cut.splits.is_empty());
+        let sound = split.map_or(cutting.cuts.len(), |split| split + 1);
+        for (first, cut) in cutting.stretches.iter().map(|part| part.first_half).zip(&cutting.cuts[..sound]) {
+            let place = (first + 1..=first + most).rev().find(|p| !inside(p - 1) && !inside(*p));
+            assert_eq!(cut.at as usize, place.unwrap_or(first + most));
+            assert!(cut.splits.is_empty() || place.is_none());
+        }
+    }
+
+    /// What is cut is the whole again, number for number, but for the events that a cut is said to split; and it splits none
+    /// where two neighbours lie in no event.
+    #[test]
+    fn parts_are_the_whole_but_for_what_is_split() {
+        let random = &mut Random::new(11);
+        let (mut clean, mut split) = (0, 0);
+        for case in 0..4_000 {
+            let (sag, hysteresis) = (random.pick(&[90, 80, 95]), random.below(6));
+            let s = Settings { n: 8, r: 1000, f: 50, sag, interruption: 10, swell: 110, hysteresis };
+            let (samples, most) = (recording(random, &s), random.between(2, 40) as usize);
+            let whole = Whole { s: &s, samples: &samples, block: 12, most };
+            let Ok(cutting) = whole.cut_up() else { panic!("{case}: refused") };
+            let (walked, told) = (plain::walk(&s, &samples), moved_back(&cutting));
+            let (_, mut table) = host::fresh(&s);
+            cutting.stretches.iter().for_each(|part| host::add(&mut table, part.samples).unwrap());
+            let c = counts(&table);
+            assert_eq!((c.total, c.unknown), (whole.halves() as u64, walked.unknown), "{case}");
+            assert!(cutting.stretches.iter().all(|part| whole.halves_of(part) <= most), "{case}");
+            assert_last_places(&cutting, most, &walked.events);
+            for event in &walked.events {
+                let named = cutting.cuts.iter().any(|cut| {
+                    let here = event[1] <= cut.at && cut.at <= event[2];
+                    here && cut.splits.iter().any(|split| split.kind == event[0])
+                });
+                assert_eq!(told.contains(event), !named, "{case}: {event:?}");
+            }
+            if cutting.cuts.iter().all(|cut| cut.splits.is_empty()) {
+                clean += 1;
+                assert_eq!((told, c.disturbed), (walked.events, walked.disturbed), "{case}");
+            } else {
+                split += 1;
+            }
+        }
+        assert!(clean > 500 && split > 500, "{clean} {split}");
     }
 }
