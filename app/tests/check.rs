@@ -100,7 +100,7 @@ fn missing_dead_stuck_and_unseen_channels_are_told() {
         &[
             "a 100.0 100.0 100.0 7 0 1 64.0",
             "b 0.0 0.0 0.0 0 0 1 2.0",
-            "Warning: dead: b never reaches 5 % of R.",
+            "Warning: dead, never at 5 % of R: b.",
             "Warning: stuck: 128 samples of c in a row are 1234 (2.0 cycles), from its sample 200 on.",
         ],
     );

@@ -33,10 +33,10 @@ impl Found {
 pub struct Close {
     /// The half-cycle before its start.
     pub before: Half,
-    /// The half-cycle at its start.
-    pub launch: Half,
-    /// The earliest half-cycle at which the extreme occurs.
-    pub peak: Option<(u64, Half)>,
+    /// The sums of squares at its start.
+    pub launch: [u64; 3],
+    /// The earliest half-cycle at which the extreme occurs, and the sums of squares there.
+    pub peak: Option<(u64, [u64; 3])>,
     /// The half-cycle at its end, which is no longer in it.
     pub landing: Half,
     /// The value of the severity curve for its duration.

@@ -4,12 +4,10 @@ use super::{
     json::Json,
     paint::Paint,
     text::{columns, wrapped},
-    words,
+    words::{self, CHANNELS},
 };
 use crate::answered::measured::{off_reference, Channel, Measured, Odd, DEAD, USUAL};
 use host::Settings;
-
-const CHANNELS: [&str; 3] = ["a", "b", "c"];
 
 /// The warning of `add`: the medians where one of them looks as if R were another quantity, or nobody saw anything.
 pub fn warning(name: &str, medians: [Option<f64>; 3]) -> Option<String> {
@@ -40,7 +38,7 @@ fn odd(s: &Settings, odd: &Odd) -> String {
     };
     match odd {
         Odd::Unseen(channels) => format!("nobody saw {}: no half-cycle there is whole", names(channels)),
-        Odd::Dead(channels) => format!("dead: {} never reaches {DEAD} % of R", names(channels)),
+        Odd::Dead(channels) => format!("dead, never at {DEAD} % of R: {}", names(channels)),
         Odd::Stuck(channel, held) => format!(
             "stuck: {} samples of {} in a row are {} ({:.1} cycles), from its sample {} on",
             held.samples,
@@ -152,9 +150,8 @@ pub fn json(s: &Settings, m: &Measured) -> Json {
     ])
 }
 
-const HEAD: &str =
-    "recording,samples,half_cycles,over,warnings,refusal,channel,median_percent,least_percent,greatest_percent,\
-                    missing,out_of_range,longest_level,period\n";
+const HEAD: &str = "recording,samples,half_cycles,over,warnings,refusal,channel,\
+                    median_percent,least_percent,greatest_percent,missing,out_of_range,longest_level,period\n";
 
 /// Measured recordings for spreadsheets, a line for each channel.
 pub fn csv(s: &Settings, measured: &[Measured]) -> String {

@@ -1,17 +1,21 @@
 //! Each event in sentences: its launch, peak and landing, and why it has or has no score.
-use super::words;
-use crate::answered::{Answer, Found, Half, Part};
+use super::words::{self, CHANNELS};
+use crate::answered::{Answer, Close, Found, Half, Part};
 use host::Settings;
 use std::cmp::Ordering;
 
 /// What the sentences of an event are about.
 pub const LABELS: [&str; 4] = ["launch", "peak", "landing", "score"];
 
-const CHANNELS: [&str; 3] = ["a", "b", "c"];
-
-/// An event's launch, peak, landing and score, a sentence each.
+/// An event's launch, peak, landing and score, a sentence each; nothing of one that was not looked at closely.
 pub fn told(s: &Settings, answer: &Answer, part: &Part, event: &Found) -> [String; 4] {
-    [launch(s, answer, part, event), peak(s, event), landing(s, answer, part, event), score(s, event)]
+    let Some(close) = &event.close else { return Default::default() };
+    [
+        launch(s, answer, part, event, close),
+        peak(s, event, close),
+        landing(s, answer, part, event, close),
+        score(s, event, close),
+    ]
 }
 
 /// The percents of R at which an event of this kind launches and lands.
@@ -53,24 +57,16 @@ fn misses(missing: [usize; 3]) -> String {
     words::and(&lost.iter().map(String::as_str).collect::<Vec<_>>())
 }
 
-fn launch(s: &Settings, answer: &Answer, part: &Part, event: &Found) -> String {
+fn launch(s: &Settings, answer: &Answer, part: &Part, event: &Found, close: &Close) -> String {
     let [border, _] = borders(s, event.kind);
-    let what = match (event.close.as_ref().map(|close| close.launch), event.kind) {
-        (Some(Half::Sums(sums)), 3) => {
-            let which = which(s, sums, border, Ordering::is_gt);
-            format!("{which} above {border} % of R ({})", stands(s, 3, sums))
-        }
-        (Some(Half::Sums(sums)), kind) => {
-            let which = which(s, sums, border, Ordering::is_lt);
-            format!("{which} below {border} % of R ({})", stands(s, kind, sums))
-        }
-        (_, 1) => format!("a channel is below {border} % of R"),
-        (_, 2) => format!("all channels are below {border} % of R"),
-        _ => format!("a channel is above {border} % of R"),
+    let (lies, side) = match event.kind {
+        3 => (Ordering::is_gt as fn(Ordering) -> bool, "above"),
+        _ => (Ordering::is_lt as fn(Ordering) -> bool, "below"),
     };
-    let before = match event.close.as_ref().map(|close| close.before) {
+    let (which, stands) = (which(s, close.launch, border, lies), stands(s, event.kind, close.launch));
+    let before = match close.before {
         _ if event.seen & 1 == 1 => format!("half-cycle {} before it is known, so the start is seen", event.start - 1),
-        Some(Half::Missing(missing)) => format!(
+        Half::Missing(missing) => format!(
             "half-cycle {} before it is unknown (it misses {}), so the start is unseen",
             event.start - 1,
             misses(missing)
@@ -80,21 +76,15 @@ fn launch(s: &Settings, answer: &Answer, part: &Part, event: &Found) -> String {
         }
         _ => "the recording begins there, so the start is unseen and may lie earlier".into(),
     };
-    format!("{}: {what}; {before}.", at(s, event.start))
+    format!("{}: {which} {side} {border} % of R ({stands}); {before}.", at(s, event.start))
 }
 
-fn peak(s: &Settings, event: &Found) -> String {
+fn peak(s: &Settings, event: &Found, close: &Close) -> String {
     let which = if event.kind == 3 { "largest" } else { "smallest" };
-    let peak = event.close.as_ref().and_then(|close| close.peak);
-    let place = peak.map_or(String::new(), |(k, _)| format!("{}: ", at(s, k)));
-    let channel = match peak {
-        Some((_, Half::Sums(sums))) => {
-            let on: Vec<&str> =
-                CHANNELS.into_iter().zip(sums).filter(|(_, sum)| *sum == event.extreme).map(|(c, _)| c).collect();
-            format!(", on {}", words::and(&on))
-        }
-        _ => String::new(),
-    };
+    let (place, channel) = close.peak.map_or_else(Default::default, |(k, sums)| {
+        let on = CHANNELS.into_iter().zip(sums).filter(|(_, sum)| *sum == event.extreme);
+        (format!("{}: ", at(s, k)), format!(", on {}", words::and(&on.map(|(name, _)| name).collect::<Vec<_>>())))
+    });
     let retained = format!("{}.{} % of R, rounded down", event.retained / 10, event.retained % 10);
     let class = match event.kind {
         1 => format!("; type {}: {}", words::class(event.class), words::class_told(event.class)),
@@ -106,51 +96,45 @@ fn peak(s: &Settings, event: &Found) -> String {
     )
 }
 
-fn landing(s: &Settings, answer: &Answer, part: &Part, event: &Found) -> String {
-    let [launch, back] = borders(s, event.kind);
-    let worked = match event.kind {
-        3 => format!("{launch} - hysteresis {}", s.hysteresis),
-        _ => format!("{launch} + hysteresis {}", s.hysteresis),
-    };
-    let how = match (event.close.as_ref().map(|close| close.landing), event.kind) {
-        (Some(Half::Sums(sums)), kind) if event.seen & 2 == 2 => {
-            let condition = match kind {
-                1 => format!("all channels are back at {back} % of R or more ({worked})"),
-                2 => format!(
-                    "{} back at {back} % of R or more ({worked}), and one is enough",
-                    which(s, sums, back, Ordering::is_ge)
-                ),
-                _ => format!("all channels are back at {back} % of R or less ({worked})"),
-            };
-            format!("{condition}: {}; it is known, so the end is seen", stands(s, kind, sums))
+fn landing(s: &Settings, answer: &Answer, part: &Part, event: &Found, close: &Close) -> String {
+    let how = match close.landing {
+        Half::Sums(sums) => {
+            format!("{}: {}; it is known, so the end is seen", ended(s, event.kind, sums), stands(s, event.kind, sums))
         }
-        (Some(Half::Missing(missing)), _) => {
+        Half::Missing(missing) => {
             format!("it is unknown (it misses {}), so the end is unseen and may lie later", misses(missing))
         }
-        _ if event.end == part.end() && part.number < answer.parts.len() => {
+        Half::Beyond if part.number < answer.parts.len() => {
             format!("{} is cut there, so the end is not told and may lie later", answer.name)
         }
-        _ => "the recording ends there, so the end is unseen and may lie later".into(),
+        Half::Beyond => "the recording ends there, so the end is unseen and may lie later".into(),
     };
     let lasted = words::seconds(event.halves(), s.f);
     format!("{}: {how}. Lasted {} = {lasted}.", at(s, event.end), words::count(event.halves(), "half-cycle"))
 }
 
-fn score(s: &Settings, event: &Found) -> String {
-    let Some(score) = event.score else { return no_score(s, event) };
-    let curve = event.close.as_ref().and_then(|close| close.curve);
-    let severity = match curve {
-        Some(curve) => format!(
-            "severity (1000 - {}) / (1000 - {curve}) = {:.3}: retained {}, and {curve} is the curve's value for {}",
-            event.retained,
-            score.severity,
-            event.retained,
-            words::count(event.halves(), "half-cycle")
+/// The condition that ended an event of this kind.
+fn ended(s: &Settings, kind: u64, sums: [u64; 3]) -> String {
+    let ([launch, back], hysteresis) = (borders(s, kind), s.hysteresis);
+    match kind {
+        1 => format!("all channels are back at {back} % of R or more ({launch} + hysteresis {hysteresis})"),
+        2 => format!(
+            "{} back at {back} % of R or more ({launch} + hysteresis {hysteresis}), and one is enough",
+            which(s, sums, back, Ordering::is_ge)
         ),
-        None => format!("severity {:.3}", score.severity),
-    };
+        _ => format!("all channels are back at {back} % of R or less ({launch} - hysteresis {hysteresis})"),
+    }
+}
+
+fn score(s: &Settings, event: &Found, close: &Close) -> String {
+    let (Some(score), Some(curve)) = (event.score, close.curve) else { return no_score(s, event) };
     format!(
-        "{severity}; energy {:.3} s: shortfall {} / ({} x {} x {} x 2 x {}), rounded down to milliseconds; cell {}: {}, {}.",
+        "severity (1000 - {}) / (1000 - {curve}) = {:.3}: retained {}, and {curve} is the curve's value for {}; energy {:.3} s: \
+         shortfall {} / ({} x {} x {} x 2 x {}), rounded down to milliseconds; cell {}: {}, {}.",
+        event.retained,
+        score.severity,
+        event.retained,
+        words::count(event.halves(), "half-cycle"),
         score.energy,
         event.shortfall,
         s.n,

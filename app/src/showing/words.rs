@@ -16,6 +16,9 @@ const MEANINGS: [(&str, &str); 7] = [
     ("hysteresis", "0 to 5"),
 ];
 
+/// The channels, in the order of the samples.
+pub const CHANNELS: [&str; 3] = ["a", "b", "c"];
+
 /// The rows of the table, by the extreme.
 pub const ROWS: [&str; 5] = ["at most 10 %", "10 to 40 %", "40 to 70 %", "70 to 85 %", "above 85 %"];
 

@@ -44,7 +44,7 @@ pub fn chart(s: &Settings, answer: &Answer, part: &Part) -> String {
     let lanes = lanes(part);
     let mut inner = bands(&frame, &part.events) + &grid(&frame, s) + &thresholds(&frame, s);
     inner += &holes(&frame, &picture.unknown);
-    for (curve, class) in picture.curves.iter().zip(["a", "b", "c"]) {
+    for (curve, class) in picture.curves.iter().zip(words::CHANNELS) {
         inner += &format!(r#"<path class="curve {class}" d="{}"/>"#, path(&frame, curve));
     }
     if part.events.len() <= CROWD {
