@@ -110,7 +110,10 @@ fn missing_dead_stuck_and_unseen_channels_are_told() {
     says(&told, &["a unseen unseen unseen 1280 0 0 none", "Warning: nobody saw a: no half-cycle there is whole."]);
     // The known answers' blocks don't swing, and a channel that stands still is stuck.
     let told = checked(&folder, &blocks(&[1000; 6]), &KNOWN);
-    says(&told, &["Whether N 8 fits can't be told: no channel swings.", "stuck: 24 samples of a in a row are 1000"]);
+    says(
+        &told,
+        &["Whether N 8 fits can't be told: none that is alive swings.", "stuck: 24 samples of a in a row are 1000"],
+    );
 }
 
 /// The period is seen through noise, harmonics, an offset and a gap, for any N.
@@ -127,6 +130,13 @@ fn an_n_that_is_not_the_period_is_told() {
     );
     let told = checked(&folder, &sines(256, [14_142.0; 3]), &FIT);
     says(&told, &["256.0 on c."]);
+    // Sampling is locked to the mains: one sample off is another N.
+    for (period, n) in [(65, 64), (130, 128), (252, 256), (504, 512)] {
+        let (samples, n_text) = (sines(period, [14_142.0; 3]), n.to_string());
+        let whole = &samples[..18 * 3 * n];
+        let told = checked(&folder, whole, &["--n", &n_text, "--r", "10000", "--f", "50"]);
+        says(&told, &[&format!("Warning: N {n} does not fit: in samples a cycle is {period}.0 on a")]);
+    }
     for n in [8, 10, 60, 512] {
         let mut samples = sines(n, [14_142.0; 3]);
         for (at, sample) in samples.iter_mut().enumerate() {
@@ -163,14 +173,21 @@ fn what_would_be_refused_is_told() {
         let told = ran.out.split_whitespace().collect::<Vec<_>>().join(" ");
         says(&told, &[words, &format!("It would be refused: refusal {number}, place {place}: ")]);
         let json = folder.refused(&[&["check", "k.i32", "--json"][..], &settings].concat(), number, place).out;
-        assert!(json.contains(&format!("\"refused\":{{\"number\":{number},\"place\":{place},")), "{json}");
+        let refused = format!("\"refused\":{{\"what\":\"k.i32\",\"number\":{number},\"place\":{place},");
+        assert!(json.contains(&refused), "{json}");
     }
+    folder.write("bad.csv", csv(&[&k2()[..], &[100_001; 12]].concat()));
+    let ran = folder.refused(&[&["check", "bad.csv"][..], &KNOWN].concat(), 6, 72);
+    assert!(ran.err.contains("line 26, channel a, 100001") && ran.out.contains("line 26, channel a"), "{ran:?}");
+    folder.write("none.csv", "");
+    let none = folder.refused(&[&["check", "none.csv"][..], &KNOWN].concat(), 3, 0).out;
+    assert!(!none.contains("The length fits"), "{none}");
     let ran = folder.refused(&[&["check", "k.i32"][..], &KNOWN].concat(), 5, 0);
     assert!(ran.err.contains("--cut cuts it into parts"), "{ran:?}");
     let told = folder.accepted(&[&["check", "k.i32", "--cut"][..], &KNOWN].concat());
     assert!(told.contains("It would be accepted."), "{told}");
     folder.refused(&["check", "k.i32", "--n", "9", "--r", "10000", "--f", "50"], 1, 1);
-    folder.bad(&["check", "none.csv", "--n", "8", "--r", "1000", "--f", "50"], "none.csv: ");
+    folder.bad(&["check", "nowhere.csv", "--n", "8", "--r", "1000", "--f", "50"], "nowhere.csv: ");
     folder.bad(&["check", "k.i32"], "--n is wanting");
 }
 
@@ -193,6 +210,50 @@ fn check_for_programs() {
     let json = folder.accepted(&[&["check", "k.i32", "--json"][..], &FIT].concat());
     assert!(json.contains("\"recording\":\"k.i32\",\"samples\":1280,\"half_cycles\":39,\"seconds\":0.39,\"over\":0,\"channels\":[{\"channel\":\"a\",\"median_percent\":"), "{json}");
     assert!(json.ends_with("\"warnings\":[],\"refused\":null}]}\n"), "{json}");
+}
+
+/// A dead channel's noise has no say in whether N fits.
+#[test]
+fn a_dead_channel_does_not_fit() {
+    let folder = Folder::new("check-dead");
+    let mut samples = good();
+    samples.iter_mut().skip(2).step_by(3).enumerate().for_each(|(at, c)| *c = at as i32 * 7_919 % 41 - 20);
+    let told = checked(&folder, &samples, &FIT);
+    says(&told, &["N 64 fits the period of a and b.", "Warning: dead, never at 5 % of R: c."]);
+    samples.iter_mut().for_each(|sample| *sample /= 300);
+    let told = checked(&folder, &samples, &FIT);
+    says(&told, &["Whether N 64 fits can't be told", "dead, never at 5 % of R: a, b and c."]);
+}
+
+/// A value beside a border is not told as if it were on it.
+#[test]
+fn a_median_beside_the_border() {
+    let folder = Folder::new("check-border");
+    let told = checked(&folder, &sines(64, [7_996.0 * 2f64.sqrt(); 3]), &FIT);
+    says(&told, &["(79.96 % on a, 79.96 % on b and 79.96 % on c)"]);
+    folder.accepted(&[&["new", "x.site"][..], &FIT].concat());
+    let ran = folder.run(&["add", "x.site", "k.i32"]);
+    assert!(ran.err.contains("a 79.96 %, b 79.96 %, c 79.96 %"), "{ran:?}");
+}
+
+/// With a site, what its table has no room for is told before it is added, and how much room there is.
+#[test]
+fn a_full_site_is_told() {
+    let folder = Folder::new("check-full");
+    folder.site("x.site");
+    let full = folder.read("x.site").replace("total 0", "total 3999990").replace("healthy 0", "healthy 3999990");
+    folder.write("x.site", &full);
+    folder.write("k.csv", csv(&k2()));
+    folder.accepted(&["check", "k.csv", "--site", "x.site"]);
+    let ran = folder.refused(&["add", "x.site", "k.csv", "k.csv", "k.csv"], 8, 0);
+    assert!(
+        ran.err.contains("k.csv: refusal 8") && ran.err.contains("after 10 that came before it; the site has 10 left"),
+        "{ran:?}"
+    );
+    folder.write("long.csv", csv(&blocks(&[1000; 13])));
+    let ran = folder.refused(&["check", "long.csv", "--site", "x.site"], 8, 10);
+    assert!(ran.out.contains("It would be refused: refusal 8, place 10:"), "{ran:?}");
+    assert_eq!(folder.read("x.site"), full);
 }
 
 /// `check` adds nothing; `add` adds, and says on standard error where the median lies outside 80 to 120 percent of R.

@@ -65,7 +65,7 @@ fn list_in_json() {
         \"recordings\":[{\"recording\":\"k.csv\",\"half_cycles\":{\"total\":5,\"healthy\":2,\"disturbed\":3,\"unknown\":0},\
         \"cuts\":[],\"parts\":[{\"part\":1,\"first_half_cycle\":0,\"half_cycles\":\
         {\"total\":5,\"healthy\":2,\"disturbed\":3,\"unknown\":0},\"events\":[{\"kind\":1,\"kind_word\":\"sag\",\"start\":1,\
-        \"end\":4,\"start_seconds\":0.01,\"seen\":3,\"extreme\":2000000,\"retained\":500,\"shortfall\":36000000,\"type\":0,\"type_word\":\"A\",\
+        \"end\":4,\"start_seconds\":0.01,\"seen\":3,\"cut\":0,\"extreme\":2000000,\"retained\":500,\"shortfall\":36000000,\"type\":0,\"type_word\":\"A\",\
         \"reason\":0,\"reason_words\":\"scored\",\"cell\":17,\"severity\":1,\"energy\":0.045}]}]}]}\n";
     assert_eq!(folder.accepted(&[&["list", "k.csv", "--json"][..], &KNOWN].concat()), wanted);
     let swell = csv(&blocks(&[1000, 1000, 1200, 1200, 1000, 1000]));

@@ -131,7 +131,7 @@ fn what_a_cut_splits_is_named() {
     let json = folder.accepted(&list("long.i32", &["--cut", "--json"]));
     let cuts =
         "\"cuts\":[{\"half_cycle\":9,\"seconds\":0.09,\"splits\":[]},{\"half_cycle\":100009,\"seconds\":1000.09,\
-                \"splits\":[{\"kind\":1,\"kind_word\":\"sag\",\"start\":10,\"end\":150001}]}]";
+                \"splits\":[{\"kind\":1,\"kind_word\":\"sag\",\"start\":10,\"end\":150001,\"untold\":0}]}]";
     assert!(json.contains(cuts), "{}", &json[..600]);
     let lost = rows(&folder.accepted(&list("long.i32", &["--cut", "--csv"])));
     assert_eq!(lost.iter().map(|row| row.number("cut")).collect::<Vec<_>>(), [2, 1], "the end, the start");
@@ -143,6 +143,8 @@ fn what_a_cut_splits_is_named() {
     let told = folder.accepted(&["add", "x.site", "long.i32", "--cut"]).replace('\n', " ");
     assert!(told.contains(wanted) && told.contains("long.i32, part 3 of 3"), "{told}");
     assert_eq!((folder.counted("x.site", "sags"), folder.counted("x.site", "unplaced")), (2, 2));
+    let ran = folder.run(&["add", "x.site", "long.i32", "--cut", "--csv"]);
+    assert!(ran.status == 0 && ran.err.contains(&format!("burrcradle: warning: long.i32: {wanted}")), "{ran:?}");
     let json = folder.accepted(&["add", "x.site", "long.i32", "--cut", "--json"]);
     assert!(json.contains(&format!("\"cut\":[{{\"recording\":\"long.i32\",{cuts}}}]")), "{json}");
     folder.accepted(&["report", "x.site", "long.i32", "--cut", "-o", "x.html"]);
@@ -154,6 +156,59 @@ fn what_a_cut_splits_is_named() {
     );
 }
 
+/// An event over several cuts is named at each with its own start and end, and so is one that stands between the threshold and
+/// its hysteresis there: the next part's list has forgotten it.
+#[test]
+fn a_long_event_is_named_at_each_cut() {
+    let folder = Folder::new("cut-long");
+    let mut levels = vec![1000; 250_001];
+    levels[50..249_000].fill(500);
+    folder.write("deep.i32", raw(&blocks(&levels)));
+    assert_eq!(parts(&folder, "deep.i32"), [0, 48, 100_048, 200_048]);
+    let told = folder.accepted(&list("deep.i32", &["--cut"])).replace('\n', " ");
+    for at in ["half-cycle 100048 (1000.480 s)", "half-cycle 200048 (2000.480 s)"] {
+        let wanted =
+            format!("for the cut at {at}: it splits the sag from half-cycle 49 to 249000. An end at the cut is unseen");
+        assert!(told.contains(&wanted), "{told}");
+    }
+    assert!(!told.contains("in no event."), "{told}");
+    // Launched at 49, and then at 91 percent for most of its time.
+    levels[55..249_000].fill(910);
+    levels[220_000..220_003].fill(500);
+    let samples = blocks(&levels);
+    folder.write("band.i32", raw(&samples));
+    assert_eq!(whole(&samples).0.iter().map(|e| (e[1], e[2], e[3])).collect::<Vec<_>>(), [(49, 248_999, 3)]);
+    assert_eq!(parts(&folder, "band.i32"), [0, 48, 100_048, 200_048], "no cut within the sag is called a place");
+    let told = folder.accepted(&list("band.i32", &["--cut"])).replace('\n', " ");
+    for (at, untold) in
+        [("half-cycle 100048 (1000.480 s)", "100048 to 200047"), ("half-cycle 200048 (2000.480 s)", "200048 to 219998")]
+    {
+        assert!(
+            told.contains(&format!("for the cut at {at}: it splits the sag from half-cycle 49 to 248999.")),
+            "{told}"
+        );
+        let wanted = format!("Half-cycles {untold} of the sag lie between its threshold and the hysteresis, and are told as in no event.");
+        assert!(told.contains(&wanted), "{told}");
+    }
+    assert!(told.contains("No event reaches over the cut at half-cycle 48 (0.480 s)."), "{told}");
+    // The piece after the third cut has both ends seen and a score of its own: it is told as a piece everywhere.
+    let rows = rows(&folder.accepted(&list("band.i32", &["--cut", "--csv"])));
+    let pieces: Vec<_> =
+        rows.iter().map(|r| (r.number("start"), r.number("end"), r.number("seen"), r.number("cut"))).collect();
+    assert_eq!(pieces, [(49, 100_048, 1, 2), (219_999, 248_999, 3, 1)]);
+    assert_eq!(told.matches("(a piece: cut)").count(), 2, "{told}");
+    let told =
+        folder.accepted(&[&["explain", "band.i32", "--cut"][..], &KNOWN].concat()).replace("\n             ", " ");
+    for words in [
+        "this is a piece of the sag that a cut has split, so the end is not told here",
+        "none, reason 2: only the end unseen; the recording is cut there and this is a piece of the sag",
+        "this is a piece of the sag that a cut has split, so the start is not told here",
+        "of this piece alone: severity (1000 - 500) / (1000 - 800) = 2.500",
+    ] {
+        assert!(told.contains(words), "{words}: {told}");
+    }
+}
+
 /// An event that begins just after a cut loses its start, one that ends just before it its end; an unknown half-cycle there
 /// would have hidden them all the same.
 #[test]
@@ -163,22 +218,40 @@ fn events_beside_a_cut_are_named_too() {
     let pattern: Vec<i32> = (0..100_100).map(|k| if k % 3 == 2 { 0 } else { 1000 }).collect();
     folder.write("long.i32", raw(&blocks(&pattern)));
     assert_eq!(parts(&folder, "long.i32"), [0, 100_000]);
-    let told = folder.accepted(&list("long.i32", &["--cut"])).replace('\n', " ");
-    assert!(told.contains("(1000.000 s): it splits the sag from there to half-cycle 100002."), "{}", &told[..600]);
-    // One block on: 99,999 ends a sag, 100,000 is in none.
+    let cut = |file: &str| folder.accepted(&list(file, &["--cut"])).replace('\n', " ");
+    let told = cut("long.i32");
+    assert!(
+        told.contains("(1000.000 s): it hides the start of the sag from half-cycle 100000 to 100002."),
+        "{}",
+        &told[..600]
+    );
+    // One block on: 99,999 begins a sag that 100,000 is in.
     folder.write("long.i32", raw(&blocks(&pattern[1..])));
-    let told = folder.accepted(&list("long.i32", &["--cut"])).replace('\n', " ");
+    let told = cut("long.i32");
     assert!(told.contains("it splits the sag from half-cycle 99999 to 100001."), "{}", &told[..600]);
     folder.write("long.i32", raw(&blocks(&pattern[2..])));
-    let told = folder.accepted(&list("long.i32", &["--cut"])).replace('\n', " ");
-    assert!(told.contains("it splits the sag from half-cycle 99998 on."), "{}", &told[..600]);
+    let told = cut("long.i32");
+    assert!(told.contains("it hides the end of the sag from half-cycle 99998 to 100000."), "{}", &told[..600]);
     // The half-cycle after the cut is unknown, and the one after that: that sag's end was never to be seen.
     let mut samples = blocks(&pattern[2..]);
     samples[100_001 * 12] = MISSING;
     folder.write("long.i32", raw(&samples));
-    let told = folder.accepted(&list("long.i32", &["--cut"])).replace('\n', " ");
-    assert!(!told.contains("splits"), "{}", &told[..600]);
+    let told = cut("long.i32");
+    assert!(!told.contains("splits") && !told.contains("hides"), "{}", &told[..600]);
     assert_eq!(listed(&folder, "long.i32"), whole(&samples));
+    // Nor does explain blame the cut for it.
+    let mut levels = vec![1000; 150_001];
+    levels[1..100_200].fill(500);
+    let mut samples = blocks(&levels);
+    samples[100_001 * 12 + 1] = MISSING;
+    folder.write("gap.i32", raw(&samples));
+    let told =
+        folder.accepted(&[&["explain", "gap.i32", "--cut"][..], &KNOWN].concat()).replace("\n             ", " ");
+    assert!(
+        told.contains("half-cycle 100000 (at 1000.000 s): it is unknown (it misses 1 sample of b), so the end"),
+        "{told}"
+    );
+    assert!(!told.contains("piece"), "{told}");
 }
 
 /// All times and half-cycles are those of the whole recording, in words, in numbers and on the page.

@@ -4,9 +4,11 @@
 mod common;
 use common::{csv, k2, Folder, Ran, KNOWN, PROGRAM};
 use std::{
+    ffi::{OsStr, OsString},
     fs::{self, File, Permissions},
     io::Write,
     os::unix::{
+        ffi::OsStrExt,
         fs::{chown, symlink, FileTypeExt, MetadataExt, PermissionsExt},
         process::CommandExt,
     },
@@ -77,6 +79,59 @@ fn a_page_is_written_over_nothing_but_a_page() {
     }
     let wanted = ["dangling.html", "empty.html", "folder", "k.csv", "notes.html", "other.site", "page.html", "x.site"];
     assert_eq!(names(&folder.0), wanted, "nothing is left beside");
+}
+
+/// What standard input reads is what the page is made from too, and so is a second name of it.
+#[test]
+fn a_page_is_not_written_over_its_input() {
+    let folder = with_k2("keep-input");
+    fs::hard_link(folder.path("k.csv"), folder.path("second.csv")).unwrap();
+    for out in ["k.csv", "second.csv"] {
+        let ran = after(&folder, "exec < k.csv", &["report", "x.site", "-", "-o", out, "--force"]);
+        assert!(ran.status == 2 && ran.err.contains("would overwrite what it is made from"), "{ran:?}");
+    }
+    assert_eq!(folder.read("k.csv"), csv(&k2()));
+}
+
+/// A file that comes to be there while the page is made is not ours either.
+#[test]
+fn a_file_that_comes_meanwhile_is_left() {
+    let folder = with_k2("keep-meanwhile");
+    let mut slow = folder
+        .command(&["report", "x.site", "-", "-o", "page.html"])
+        .stdin(Stdio::piped())
+        .stderr(Stdio::null())
+        .spawn()
+        .unwrap();
+    let mut input = slow.stdin.take().unwrap();
+    input.write_all(b"a,b,c\n").unwrap();
+    thread::sleep(Duration::from_millis(200));
+    folder.site("page.html");
+    input.write_all(&csv(&k2()).as_bytes()[6..]).unwrap();
+    drop(input);
+    assert_eq!((slow.wait().unwrap().code(), folder.counted("page.html", "total")), (Some(2), 0));
+}
+
+/// Names as long as a name may be, and names that are no text.
+#[test]
+fn any_name_will_do() {
+    let folder = Folder::new("keep-names");
+    folder.write("k.csv", csv(&k2()));
+    let long = "x".repeat(250) + ".site";
+    folder.site(&long);
+    folder.accepted(&["add", &long, "k.csv"]);
+    folder.accepted(&["report", &long, "k.csv", "-o", &("y".repeat(250) + ".html")]);
+    assert_eq!(folder.counted(&long, "total"), 5);
+    let odd = |bytes: &[u8]| OsStr::from_bytes(bytes).to_os_string();
+    let run = |args: &[OsString]| Command::new(PROGRAM).args(args).current_dir(&folder.0).output().unwrap();
+    let text = |words: &[&str]| words.iter().map(OsString::from).collect::<Vec<_>>();
+    let made = run(&[text(&["new"]), vec![odd(b"\xff.site")], text(&KNOWN)].concat());
+    assert!(made.status.success(), "{made:?}");
+    fs::write(folder.0.join(odd(b".\xfe.site.123-0.new")), "another site's").unwrap();
+    assert!(run(&[text(&["add"]), vec![odd(b"\xff.site")], text(&["k.csv"])].concat()).status.success());
+    assert!(folder.0.join(odd(b".\xfe.site.123-0.new")).exists(), "not beside this site");
+    let listed = run(&[text(&["list", "k.csv"]), vec![odd(b"--site=\xff.site")]].concat());
+    assert!(listed.status.success(), "{listed:?}");
 }
 
 #[test]
@@ -338,6 +393,11 @@ fn the_owner_stays() {
     chown(shared.0.join("page.html"), Some(OTHER), Some(OTHER)).unwrap();
     assert_eq!(shared.run(0, &["report", "x.site", "k.csv", "-o", "page.html"]).0, 0);
     assert_eq!(fs::metadata(shared.0.join("page.html")).unwrap().uid(), OTHER);
+    // Who may not write to a page does not replace it.
+    chown(shared.0.join("page.html"), Some(0), Some(0)).unwrap();
+    shared.mode("x.site", 0o644);
+    let (status, said) = shared.run(OTHER, &["report", "x.site", "k.csv", "-o", "page.html"]);
+    assert!(status == 2 && said.contains("page.html: can't be written to: Permission denied"), "{said}");
 }
 
 /// Whoever may write to the site can add to it, whoever added before; the group that had leave keeps it.

@@ -112,6 +112,17 @@ fn the_severity_curve_has_four_levels() {
     assert_eq!((path.matches('M').count(), path.matches('V').count()), (1, 3), "{path}");
 }
 
+/// A wrong R makes swells of many times R: the axes stay readable.
+#[test]
+fn the_axis_of_depth_has_few_labels() {
+    let folder = Folder::new("report-axis");
+    folder.write("k.csv", csv(&blocks(&[1000, 1000, 23_000, 23_000, 1000, 1000])));
+    let page = page(&folder, &["k.csv"]);
+    let chart = page.split_once("Depth against duration").unwrap().1.split_once("</svg>").unwrap().0;
+    assert!(chart.matches(" %</text>").count() <= 10, "{chart}");
+    assert!(chart.contains(">2000 %</text>"), "{chart}");
+}
+
 #[test]
 fn a_long_recording_makes_a_small_page() {
     let folder = Folder::new("report-long");
@@ -162,10 +173,15 @@ fn the_page_says_how_the_table_stands_to_the_recordings() {
         folder.read("x.html")
     };
     let (need_not, not) =
-        ("adds nothing to it: they need not be in it.", "They are not all in it: it counts 0 sags, and they have 1.");
+        ("adds nothing to it: they need not be in it.", "They are not all in it: sags, 0 in the table and 1 in them.");
     assert!(page().contains(need_not) && page().contains(not));
     folder.accepted(&["add", "x.site", "k.csv"]);
     assert!(page().contains(need_not) && !page().contains("not all in it"));
+    folder.accepted(&["report", "x.site", "k.csv", "k.csv", "-o", "x.html"]);
+    assert!(!folder.read("x.html").contains("not all in it"), "shown twice, it need not be in it twice");
+    folder.write("deeper.csv", csv(&blocks(&[1000, 1000, 300, 300, 1000, 1000])));
+    folder.accepted(&["report", "x.site", "deeper.csv", "-o", "x.html"]);
+    assert!(folder.read("x.html").contains("They are not all in it: sags in cell 9, 0 in the table and 1 in them."));
     folder.accepted(&["demo"]);
     assert!(folder.read("demo.html").contains("The table holds the recordings below and nothing else."));
 }
@@ -202,7 +218,11 @@ fn what_nobody_saw_is_said_on_the_page() {
     let folder = Folder::new("report-unseen");
     folder.write("k.csv", csv(&[MISSING; 72]));
     let unseen = page(&folder, &["k.csv"]);
-    assert!(unseen.contains("<b>0.050 s</b><span>unknown</span><i>5 half-cycles: nobody saw them</i>"));
+    let tile = "<b>0.050 s</b><span>unknown</span><i>nobody saw 5 half-cycles</i>";
+    assert_eq!(unseen.matches(tile).count(), 2, "of the site and of the recording");
+    folder.site("other.site");
+    folder.accepted(&["report", "other.site", "k.csv", "-o", "other.html"]);
+    assert_eq!(folder.read("other.html").matches(tile).count(), 1, "whether or not the table holds it");
     assert!(unseen.contains("<p class=\"unseen\">Nobody saw it: all 5 half-cycles are unknown."));
     assert!(!unseen.contains("No event."));
     let folder = Folder::new("report-seen");
@@ -214,7 +234,7 @@ fn what_nobody_saw_is_said_on_the_page() {
     samples[0] = MISSING;
     folder.write("k.csv", csv(&samples));
     let half = page(&folder, &["k.csv"]);
-    assert!(half.contains("<span>unknown</span><i>1 half-cycle: nobody saw"));
+    assert!(half.contains("<span>unknown</span><i>nobody saw 1 half-cycle</i>"));
     assert!(half.contains("No event in the 4 half-cycles that somebody saw; 1 is unknown."));
 }
 

@@ -1,5 +1,6 @@
 //! What a recording looks like before the rules are asked: whether it fits the settings that it is read with.
-use host::{Refused, Settings};
+use crate::failure::Refusal;
+use host::Settings;
 
 /// A recording measured.
 pub struct Measured {
@@ -11,8 +12,8 @@ pub struct Measured {
     pub halves: u64,
     pub over: u64,
     pub channels: [Channel; 3],
-    /// Why the library would turn it away.
-    pub refused: Option<Refused>,
+    /// Why the library would turn it away, and what the place means in the file.
+    pub refused: Option<Refusal>,
 }
 
 /// One channel measured.
@@ -58,30 +59,44 @@ pub enum Odd {
 }
 
 /// Where the median of a channel's rms should lie, in percent of R.
-pub const USUAL: (f64, f64) = (80.0, 120.0);
+pub const USUAL: (u64, u64) = (80, 120);
 /// A channel that is never above this, in percent of R, is dead.
 pub const DEAD: f64 = 5.0;
-/// How far a cycle may be from N, as a share of it.
-const SLACK: f64 = 0.02;
+/// N fits where it is the whole number nearest to the period: sampling is locked to the mains.
+const SLACK: f64 = 0.5;
 
 impl Measured {
     /// What is odd. Of a channel that is unseen or dead nothing else is said.
     pub fn odd(&self, s: &Settings) -> Vec<Odd> {
         let channels = || self.channels.iter().enumerate();
-        let dead = |channel: &Channel| channel.rms.as_ref().is_some_and(|rms| rms.greatest < DEAD);
-        let alive = || channels().filter(|(_, channel)| channel.rms.is_some() && !dead(channel));
-        let off = |period: &f64| (period - s.n as f64).abs() > SLACK * s.n as f64;
-        let medians = alive().filter_map(|(at, c)| c.rms.as_ref().map(|rms| (at, rms.median)));
+        let off = |(_, period): &(usize, f64)| (period - s.n as f64).abs() > SLACK;
+        let medians = self.alive().filter_map(|(at, c)| c.rms.as_ref().map(|rms| (at, rms.median)));
         let mut odd = vec![
             Odd::Unseen(channels().filter(|(_, channel)| channel.rms.is_none()).map(|(at, _)| at).collect()),
-            Odd::Dead(channels().filter(|(_, channel)| dead(channel)).map(|(at, _)| at).collect()),
+            Odd::Dead(channels().filter(|(_, channel)| channel.is_dead()).map(|(at, _)| at).collect()),
         ];
-        odd.extend(alive().filter(|(_, c)| c.held.samples >= s.n).map(|(at, c)| Odd::Stuck(at, c.held)));
+        odd.extend(self.alive().filter(|(_, c)| c.held.samples >= s.n).map(|(at, c)| Odd::Stuck(at, c.held)));
         odd.push(Odd::Reference(medians.filter(|(_, median)| off_reference(*median)).collect()));
-        odd.push(Odd::Period(alive().filter_map(|(at, c)| Some((at, c.period.filter(off)?))).collect()));
+        odd.push(Odd::Period(self.periods().filter(off).collect()));
         odd.push(Odd::Over(self.over));
         odd.retain(|odd| !odd.is_nothing());
         odd
+    }
+
+    /// The channels that somebody saw and that are not dead.
+    fn alive(&self) -> impl Iterator<Item = (usize, &Channel)> {
+        self.channels.iter().enumerate().filter(|(_, channel)| channel.rms.is_some() && !channel.is_dead())
+    }
+
+    /// The period of each channel that is alive and swings.
+    pub fn periods(&self) -> impl Iterator<Item = (usize, f64)> + '_ {
+        self.alive().filter_map(|(at, channel)| channel.period.map(|period| (at, period)))
+    }
+}
+
+impl Channel {
+    fn is_dead(&self) -> bool {
+        self.rms.as_ref().is_some_and(|rms| rms.greatest < DEAD)
     }
 }
 
@@ -98,5 +113,5 @@ impl Odd {
 
 /// Whether a median looks as if R were another quantity.
 pub fn off_reference(median: f64) -> bool {
-    !(USUAL.0..=USUAL.1).contains(&median)
+    !(USUAL.0 as f64..=USUAL.1 as f64).contains(&median)
 }

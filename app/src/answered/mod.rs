@@ -1,5 +1,6 @@
 //! What was answered about a recording, by name. Half-cycles are numbered as in the whole recording, whatever it was cut
 //! into, and nothing here knows how it is shown.
+pub mod level;
 pub mod measured;
 pub mod table;
 
@@ -71,13 +72,14 @@ pub struct Cut {
     pub splits: Vec<Split>,
 }
 
-/// An event that a cut goes through, or that begins or ends just there.
+/// An event that a cut goes through, or that begins or ends just there, as it is in the whole recording.
 pub struct Split {
     pub kind: u64,
-    /// Where it starts, if before the cut.
-    pub start: Option<u64>,
-    /// Where the rest of it ends, if there is one in the next part.
-    pub end: Option<u64>,
+    pub start: u64,
+    pub end: u64,
+    /// The half-cycles of it after the cut, up to but not with the second number, that are told as in no event: they lie
+    /// between the threshold and its hysteresis, and the next part does not see how the event began.
+    pub untold: (u64, u64),
 }
 
 /// What the library says about one part.
@@ -131,15 +133,16 @@ impl Answer {
         all
     }
 
-    /// Which ends of an event a cut has taken: 1 for the start plus 2 for the end.
+    /// Which ends of an event a cut has taken: 1 for the start plus 2 for the end. What is told is a piece of the event then.
     pub fn lost(&self, event: &Found) -> u64 {
         let splits = self.cuts.iter().flat_map(|cut| cut.splits.iter().map(move |split| (cut.at, split)));
-        let lost = splits.filter(|(_, split)| split.kind == event.kind).map(|(at, split)| {
-            let start = event.start == at && split.end == Some(event.end);
-            let end = event.end == at && split.start == Some(event.start);
+        let of = splits.filter(|(_, w)| w.kind == event.kind && w.start <= event.start && event.end <= w.end);
+        let lost = of.map(|(at, w)| {
+            let start = event.start > w.start || event.start == at;
+            let end = event.end < w.end || event.end == at;
             u64::from(start) + 2 * u64::from(end)
         });
-        lost.sum()
+        lost.fold(0, |lost, more| lost | more)
     }
 
     /// Every event with its part and its number there, from 1.

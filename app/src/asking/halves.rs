@@ -1,5 +1,8 @@
 //! Single half-cycles, straight from the samples: what is drawn and measured, and never what is decided.
-use crate::answered::Curve;
+use crate::{
+    answered::{Curve, Half},
+    reading::recording::MISSING,
+};
 use host::Settings;
 
 /// The samples that half-cycle k covers, N of each channel; none where there is no such half-cycle.
@@ -17,6 +20,16 @@ pub fn sums(window: &[i32]) -> [u64; 3] {
         }
     }
     sums
+}
+
+/// Half-cycle k.
+pub fn half(s: &Settings, samples: &[i32], k: u64) -> Half {
+    let Some(window) = window(s, samples, k) else { return Half::Beyond };
+    let missing = [0, 1, 2].map(|channel| window.iter().skip(channel).step_by(3).filter(|x| **x == MISSING).count());
+    match missing {
+        [0, 0, 0] => Half::Sums(sums(window)),
+        missing => Half::Missing(missing),
+    }
 }
 
 /// The rms value of a sum of squares in percent of R, as a float: good enough to look at.

@@ -1,22 +1,27 @@
 //! Measuring a recording: what can be seen of it before the rules are asked.
-use super::{cut, halves};
+use super::halves;
 use crate::{
-    answered::measured::{Channel, Held, Measured, Spread},
+    answered::{
+        measured::{Channel, Held, Measured, Spread},
+        table,
+    },
+    failure::Failure,
     reading::recording::{Recording, MISSING},
 };
-use host::{Refused, Settings};
+use host::{Settings, Table};
 
 /// The largest sample that the rules allow.
 const LARGEST: u32 = 100_000;
 
-/// Measures a recording under good settings; `cut` is how it would be added.
-pub fn measure(s: &Settings, recording: &Recording, cut: bool) -> Measured {
-    let samples = &recording.samples;
+/// Measures a recording under good settings; `into` is the table that it would be added to, cut or not.
+pub fn measure(into: &Table, recording: &Recording, cut: bool) -> Measured {
+    let (s, samples) = (table::settings(into), &recording.samples);
     let (length, half) = (samples.len() as u64 / 3, s.n / 2);
-    let refused = match host::list(s, samples, &mut []) {
-        Ok(_) | Err(Refused { number: 7, .. }) => None,
-        Err(Refused { number: 5, .. }) if cut => cut::cutting(s, samples, cut).err(),
-        Err(refused) => Some(refused),
+    let mut grown = *into;
+    let added = super::add(&mut grown, recording, cut);
+    let refused = match added.map_err(|failure| super::told_of_room(failure, into, &grown)) {
+        Err(Failure::Refused(refusal)) => Some(refusal),
+        _ => None,
     };
     Measured {
         name: recording.name.clone(),
@@ -24,7 +29,7 @@ pub fn measure(s: &Settings, recording: &Recording, cut: bool) -> Measured {
         ragged: samples.len() as u64 % 3,
         halves: (length / half).saturating_sub(1),
         over: length % half,
-        channels: [0, 1, 2].map(|channel| one(s, samples, channel)),
+        channels: [0, 1, 2].map(|channel| one(&s, samples, channel)),
         refused,
     }
 }
@@ -70,10 +75,16 @@ fn spread(s: &Settings, samples: &[i32], channel: usize) -> Option<Spread> {
     Some(Spread { median, least, greatest })
 }
 
-/// The middle value; none of no values.
+/// The middle value, or the mean of the two in the middle; none of no values.
 fn median(values: &mut [f64]) -> Option<f64> {
+    let even = values.len().is_multiple_of(2);
     let middle = values.len() / 2;
-    (!values.is_empty()).then(|| *values.select_nth_unstable_by(middle, f64::total_cmp).1)
+    if values.is_empty() {
+        return None;
+    }
+    let (below, upper, _) = values.select_nth_unstable_by(middle, f64::total_cmp);
+    let lower = below.iter().copied().fold(f64::NEG_INFINITY, f64::max);
+    Some(if even { (lower + *upper) / 2.0 } else { *upper })
 }
 
 /// The longest run of one value; a missing sample ends a run.

@@ -8,7 +8,7 @@ pub mod measure;
 mod probe;
 
 use crate::{
-    answered::{table, Answer, Found, Part, Picture},
+    answered::{table, Answer, Close, Found, Part, Picture},
     failure::{Failure, Refusal},
     reading::recording::Recording,
 };
@@ -35,7 +35,9 @@ pub fn about(s: &Settings, recording: &Recording, wish: Wish) -> Result<Answer, 
             (Some(events), None) => events.clone(),
             (_, room) => list::list(s, stretch.samples, room)?,
         };
-        let events = events.iter().map(|event| found(s, stretch, event, wish.close)).collect();
+        let samples = &recording.samples;
+        let look = |event| wish.close.then(|| close::look(s, samples, stretch, event));
+        let events = events.iter().map(|event| found(s, stretch.first_half as u64, event, look(event))).collect();
         let own = alone(s, stretch.samples)?;
         let picture = wish.picture.map(|columns| picture(s, stretch, table::counts(&own).total, columns));
         Ok(Part { number, first_half: stretch.first_half as u64, events, own, picture })
@@ -51,6 +53,19 @@ pub fn add(table: &mut Table, recording: &Recording, cut: bool) -> Result<Answer
         let own = alone(&s, stretch.samples)?;
         Ok(Part { number, first_half: stretch.first_half as u64, events: Vec::new(), own, picture: None })
     })
+}
+
+/// A refusal for want of room in a table that has grown from `before` half-cycles on the way: what that means for the site.
+pub fn told_of_room(failure: Failure, before: &Table, grown: &Table) -> Failure {
+    let more = table::counts(grown).total - table::counts(before).total;
+    match failure {
+        Failure::Refused(Refusal { what, refused, .. }) if refused.number == 8 && more > 0 => {
+            let left = refused.place + more;
+            let more = format!("after {more} that came before it; the site has {left} left, and stays as it is");
+            Failure::Refused(Refusal { what, refused, more })
+        }
+        failure => failure,
+    }
 }
 
 /// Asks about each part of a recording; a refusal is told with the part and with what its place means in the file.
@@ -77,11 +92,9 @@ fn part_by_part(
 }
 
 /// An event's numbers by name, with what the library says of them, moved to where it lies in the whole recording.
-fn found(s: &Settings, stretch: &Stretch, event: &Event, close: bool) -> Found {
+fn found(s: &Settings, first: u64, event: &Event, close: Option<Close>) -> Found {
     let [kind, start, end, seen, extreme, retained, shortfall, class] = *event;
     let (reason, cell, score) = (host::reason(s, event), host::cell(s, event), host::score(s, event).ok());
-    let close = close.then(|| close::look(s, stretch, event));
-    let first = stretch.first_half as u64;
     let (start, end) = (first + start, first + end);
     Found { kind, start, end, seen, extreme, retained, shortfall, class, reason, cell, score, close }
 }

@@ -4,9 +4,10 @@ use crate::{
     failure::Failure,
     keeping::site,
 };
-use host::Settings;
+use host::{Settings, Table};
 use std::{
     ffi::{OsStr, OsString},
+    os::unix::ffi::OsStrExt,
     path::Path,
 };
 
@@ -51,10 +52,10 @@ impl Args {
             } else if text == "--" {
                 open = false;
             } else {
-                let (name, joined) = match text.split_once('=') {
-                    Some((name, value)) => (name.to_string(), Some(OsString::from(value))),
-                    None => (text.to_string(), None),
-                };
+                // The value may be the name of a file, which need not be text.
+                let mut parts = word.as_bytes().splitn(2, |byte| *byte == b'=');
+                let name = String::from_utf8_lossy(parts.next().unwrap_or_default()).into_owned();
+                let joined = parts.next().map(|value| OsStr::from_bytes(value).to_os_string());
                 args.option(name, joined, &mut given, takes)?;
             }
         }
@@ -127,16 +128,21 @@ impl Args {
         }
     }
 
-    /// The settings of the site or of the options; the two exclude each other.
-    pub fn settings_or_site(&self) -> Result<Settings, Failure> {
+    /// The table of the site, where one is named; a site and settings of one's own exclude each other.
+    pub fn site(&self) -> Result<Option<Table>, Failure> {
         let own = SETTINGS.iter().any(|name| self.value(&format!("--{name}")).is_some());
         match self.value("--site") {
             Some(_) if own => {
                 usage("--site has its settings already: leave out --n, --r, --f and the thresholds".into())
             }
-            Some(path) => Ok(settings(&site::load(Path::new(path))?)),
-            None => self.settings(),
+            Some(path) => site::load(Path::new(path)).map(Some),
+            None => Ok(None),
         }
+    }
+
+    /// The settings of the site or of the options.
+    pub fn settings_or_site(&self) -> Result<Settings, Failure> {
+        self.site()?.map_or_else(|| self.settings(), |table| Ok(settings(&table)))
     }
 
     /// The settings of the options. Whether they are allowed is for the library to say.

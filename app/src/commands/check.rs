@@ -1,6 +1,7 @@
 //! `check`: whether recordings fit the settings, before anything is added.
 use super::args::{Args, Format, Takes};
 use crate::{
+    answered::table::settings,
     asking::measure,
     failure::{Failure, Refusal},
     reading::{self, How},
@@ -11,7 +12,7 @@ use crate::{
     },
     terminal::{Progress, Said},
 };
-use host::Refused;
+use host::Table;
 
 pub const TAKES: Takes = Takes {
     files: &["RECORDING"],
@@ -21,17 +22,14 @@ pub const TAKES: Takes = Takes {
 };
 
 pub fn run(args: &Args) -> Result<Said, Failure> {
-    let (format, s) = (args.format()?, args.settings_or_site()?);
-    let refusal = |what: &str, refused: Refused| {
-        let more = if refused.number == 5 { "--cut cuts it into parts" } else { "" };
-        Failure::Refused(Refusal { what: what.into(), refused, more: more.into() })
-    };
-    host::fresh(&s).0.map_err(|refused| refusal("the settings", refused))?;
+    let format = args.format()?;
+    let table = args.site()?.map_or_else(|| fresh(args), Ok)?;
+    let s = settings(&table);
     let mut measured = Vec::new();
     for file in &args.files {
         let _progress = Progress::on(&format!("checking {}", reading::name(file)));
         let recording = reading::read(file, How { raw: args.flag("--raw"), fingerprint: false })?;
-        measured.push(measure::measure(&s, &recording, args.flag("--cut")));
+        measured.push(measure::measure(&table, &recording, args.flag("--cut")));
     }
     let text = match format {
         Format::Text => {
@@ -45,6 +43,13 @@ pub fn run(args: &Args) -> Result<Said, Failure> {
         }
         Format::Csv => check::csv(&s, &measured),
     };
-    let refused = measured.iter().filter_map(|m| m.refused.map(|refused| refusal(&m.name, refused))).collect();
+    let refused = measured.into_iter().filter_map(|measured| measured.refused.map(Failure::Refused)).collect();
     Ok(Said { text, done: None, refused })
+}
+
+/// A table that recordings could be added to, where no site is named.
+fn fresh(args: &Args) -> Result<Table, Failure> {
+    let (made, table) = host::fresh(&args.settings()?);
+    let refusal = |refused| Refusal { what: "the settings".into(), refused, more: String::new() };
+    made.map(|()| table).map_err(|refused| Failure::Refused(refusal(refused)))
 }

@@ -17,7 +17,9 @@ use crate::{
 };
 use std::{
     ffi::OsStr,
-    fs,
+    fs::{self, File},
+    io,
+    os::{fd::AsFd, unix::fs::MetadataExt},
     path::Path,
     time::{SystemTime, UNIX_EPOCH},
 };
@@ -66,7 +68,11 @@ pub fn run(args: &Args) -> Result<Said, Failure> {
     Ok(Said::after(format!("{out}: the page was written"), format!("{out}: written\n")))
 }
 
-/// Whether two names lead to one file.
+/// Whether two names lead to one file; `-` is what standard input reads.
 fn same(one: &OsStr, other: &OsStr) -> bool {
-    one == other || matches!((fs::canonicalize(one), fs::canonicalize(other)), (Ok(a), Ok(b)) if a == b)
+    let read = match one == "-" {
+        true => io::stdin().as_fd().try_clone_to_owned().and_then(|input| File::from(input).metadata()),
+        false => fs::metadata(one),
+    };
+    matches!((read, fs::metadata(other)), (Ok(a), Ok(b)) if (a.dev(), a.ino()) == (b.dev(), b.ino()))
 }

@@ -10,11 +10,11 @@ use crate::{
         check, csv,
         json::{self, Json},
         paint::Paint,
-        text,
+        text, words,
     },
     terminal::{complain, Progress, Said},
 };
-use host::Table;
+use host::{Settings, Table};
 use std::{ffi::OsString, path::Path, time::Duration};
 
 pub const NEW: Takes = Takes {
@@ -68,11 +68,12 @@ pub fn add(args: &Args) -> Result<Said, Failure> {
     let ahead = |file: &OsString| reading::may_wait(file).then(|| read(file, how)).transpose();
     let files = args.files[1..].iter().map(|file| Ok((file, ahead(file)?))).collect::<Result<Vec<_>, Failure>>()?;
     let locked = site::lock(path, Duration::from_secs(wait))?;
-    let mut table = site::load(path)?;
-    let (mut added, mut warnings) = (Vec::new(), Vec::new());
+    let before = site::load(path)?;
+    let (mut table, mut added, mut warnings) = (before, Vec::new(), Vec::new());
     for (file, ahead) in files {
         let recording = ahead.map_or_else(|| read(file, how), Ok)?;
-        added.push(add_one(&mut table, &recording, args.flag("--cut"))?);
+        let one = add_one(&mut table, &recording, args.flag("--cut"));
+        added.push(one.map_err(|failure| asking::told_of_room(failure, &before, &table))?);
         warnings.extend(check::warning(&recording.name, measure::medians(&settings(&table), &recording.samples)));
     }
     // One writing for all, so that a refusal of any leaves the file as it was.
@@ -88,9 +89,19 @@ pub fn add(args: &Args) -> Result<Said, Failure> {
             fields.push(("table", json::table(&table)));
             format!("{}\n", Json::Object(fields))
         }
-        Format::Csv => csv::table(&table),
+        Format::Csv => {
+            // The table alone has no place for it.
+            added.iter().for_each(|answer| warn_of_splits(&s, answer));
+            csv::table(&table)
+        }
     };
     Ok(Said::after(written(path), text))
+}
+
+fn warn_of_splits(s: &Settings, answer: &Answer) {
+    for cut in answer.cuts.iter().filter(|cut| !cut.splits.is_empty()) {
+        complain(&format!("warning: {}: {}", answer.name, words::splits(s, cut)));
+    }
 }
 
 fn read(file: &OsString, how: How) -> Result<Recording, Failure> {

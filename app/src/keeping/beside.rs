@@ -1,12 +1,18 @@
 //! A new file beside the one that it is to replace: whatever goes wrong, the old one stays whole.
 use std::{
-    ffi::OsString,
+    ffi::{OsStr, OsString},
     fs::{self, File, Metadata, Permissions},
     io::{self, ErrorKind, Write},
-    os::unix::fs::{fchown, MetadataExt, OpenOptionsExt, PermissionsExt},
+    os::unix::{
+        ffi::OsStrExt,
+        fs::{fchown, MetadataExt, OpenOptionsExt, PermissionsExt},
+    },
     path::{Path, PathBuf},
     process,
 };
+
+/// Names up to this long leave room for what is put around them: a name has 255 bytes at most.
+const LONGEST: usize = 220;
 
 /// A file under a name of its own in the folder of another; it goes with its owner, unless it was put in a place.
 pub struct Beside {
@@ -77,11 +83,16 @@ fn create(path: &Path, owner_only: bool) -> io::Result<(File, PathBuf)> {
     }
 }
 
-/// `.SITE.4711-0.new` for `SITE`.
+/// The front of the names of new files beside one: `.SITE.` for `SITE`; none where the name leaves no room for more.
+fn front(path: &Path) -> Option<OsString> {
+    let own = path.file_name().filter(|own| own.len() <= LONGEST)?;
+    Some(OsString::from_iter([OsStr::new("."), own, OsStr::new(".")]))
+}
+
+/// `.SITE.4711-0.new` for `SITE`, and `.burrcradle.4711-0.new` for a name that is too long for that.
 fn name(path: &Path, which: &str) -> OsString {
-    let mut name = OsString::from(".");
-    name.push(path.file_name().unwrap_or_default());
-    name.push(format!(".{which}.new"));
+    let mut name = front(path).unwrap_or_else(|| ".burrcradle.".into());
+    name.push(format!("{which}.new"));
     name
 }
 
@@ -101,15 +112,11 @@ fn belong(file: &File, old: &Metadata) -> io::Result<()> {
 
 /// Removes what a kill has left beside a file. Only for who has the file to himself: nobody else is writing there then.
 pub fn sweep(path: &Path) {
-    let Some(Ok(entries)) = path.parent().map(fs::read_dir) else { return };
-    let ours = |found: &OsString| {
-        let middle = |text: &str, front: &str| {
-            let rest = text.strip_prefix(front)?.strip_suffix(".new")?;
-            let (process, count) = rest.split_once('-')?;
-            Some([process, count].iter().all(|n| !n.is_empty() && n.bytes().all(|b| b.is_ascii_digit())))
-        };
-        let front = format!(".{}.", path.file_name().unwrap_or_default().to_string_lossy());
-        middle(&found.to_string_lossy(), &front).unwrap_or(false)
+    let (Some(Ok(entries)), Some(front)) = (path.parent().map(fs::read_dir), front(path)) else { return };
+    let ours = |found: &OsStr| {
+        let which = found.as_bytes().strip_prefix(front.as_bytes()).and_then(|rest| rest.strip_suffix(b".new"));
+        let numbers: Vec<&[u8]> = which.unwrap_or_default().split(|byte| *byte == b'-').collect();
+        numbers.len() == 2 && numbers.iter().all(|n| !n.is_empty() && n.iter().all(u8::is_ascii_digit))
     };
     for entry in entries.flatten().filter(|entry| ours(&entry.file_name())) {
         if entry.file_type().is_ok_and(|kind| kind.is_file()) {

@@ -4,6 +4,7 @@ use crate::failure::Failure;
 use std::{
     fs::{self, File, Metadata},
     io::{self, ErrorKind, Read, Write},
+    os::unix::fs::{FileTypeExt, MetadataExt},
     path::Path,
 };
 
@@ -19,18 +20,21 @@ pub fn may_go(path: &Path, mark: &str, force: bool) -> Result<(), Failure> {
         Some(There::Nowhere) => return told("a link that leads nowhere, and is left as it is (--force replaces it)"),
         Some(There::Something(found)) => found,
     };
-    if found.is_dir() {
+    let kind = found.file_type();
+    if kind.is_dir() {
         return told("is a folder");
     }
-    if !found.is_file() || force {
+    if force || kind.is_fifo() || kind.is_char_device() || kind.is_socket() {
         return Ok(());
     }
     if found.permissions().readonly() {
         return told("is read-only, and is left as it is (--force writes over it)");
     }
     let mut head = Vec::new();
-    let read = File::open(path).and_then(|file| file.take(HEAD).read_to_end(&mut head));
-    read.map_err(|e| Failure::file(path.display(), e))?;
+    // Who may not write to a page may not replace it either.
+    let opened = File::options().read(true).write(true).open(path);
+    let read = opened.and_then(|file| file.take(HEAD).read_to_end(&mut head));
+    read.map_err(|e| Failure::file(path.display(), format!("can't be written to: {e}")))?;
     match String::from_utf8_lossy(&head).contains(mark) {
         true => Ok(()),
         false => told("is no page of burrcradle's, and is left as it is (--force writes over it)"),
@@ -39,8 +43,10 @@ pub fn may_go(path: &Path, mark: &str, force: bool) -> Result<(), Failure> {
 
 /// Writes a page: beside what is there, and then in its place.
 pub fn write(path: &Path, page: &str, mark: &str, force: bool) -> Result<(), Failure> {
+    let over = there(path)?;
     may_go(path, mark, force)?;
-    put(path, page.as_bytes()).map_err(|e| Failure::file(path.display(), format!("the page could not be written: {e}")))
+    let written = put(path, page.as_bytes(), over);
+    written.map_err(|e| Failure::file(path.display(), format!("the page could not be written: {e}")))
 }
 
 /// Whether a file may go there that must have these bytes: nothing is there, or just that.
@@ -84,12 +90,20 @@ fn there(path: &Path) -> Result<Option<There>, Failure> {
     }
 }
 
-fn put(path: &Path, bytes: &[u8]) -> io::Result<()> {
-    // Through a link to the file itself, so that the link stays one.
-    let real = fs::canonicalize(path).unwrap_or(path.to_path_buf());
-    match fs::metadata(&real) {
-        Ok(found) if !found.is_file() => File::options().write(true).open(path)?.write_all(bytes),
-        Ok(found) => Beside::write(&real, bytes, Some(&found))?.replace(&real),
-        Err(_) => Beside::write(&real, bytes, None)?.replace(&real),
+fn put(path: &Path, bytes: &[u8], over: Option<There>) -> io::Result<()> {
+    match over {
+        None => Beside::write(path, bytes, None)?.place(path),
+        Some(There::Nowhere) => Beside::write(path, bytes, None)?.replace(path),
+        Some(There::Something(found)) if !found.is_file() => File::options().write(true).open(path)?.write_all(bytes),
+        Some(There::Something(found)) => {
+            // Through a link to the file itself, so that the link stays one.
+            let real = fs::canonicalize(path)?;
+            let beside = Beside::write(&real, bytes, Some(&found))?;
+            let now = fs::metadata(&real)?;
+            if (now.dev(), now.ino()) != (found.dev(), found.ino()) {
+                return Err(io::Error::other("another file took its place meanwhile"));
+            }
+            beside.replace(&real)
+        }
     }
 }

@@ -1,7 +1,7 @@
 //! What `check` found out about a recording, and what `add` warns of.
 use super::{
     csv,
-    json::Json,
+    json::{self, Json},
     paint::Paint,
     text::{columns, wrapped},
     words::{self, CHANNELS},
@@ -16,7 +16,7 @@ pub fn warning(name: &str, medians: [Option<f64>; 3]) -> Option<String> {
     }
     medians.iter().flatten().any(|median| off_reference(*median)).then(|| {
         let told = |(channel, median): (&str, Option<f64>)| match median {
-            Some(median) => format!("{channel} {median:.1} %"),
+            Some(median) => format!("{channel} {} %", words::apart(median, &[USUAL.0, USUAL.1])),
             None => format!("{channel} unseen"),
         };
         let told: Vec<String> = CHANNELS.into_iter().zip(medians).map(told).collect();
@@ -33,7 +33,9 @@ pub fn warning(name: &str, medians: [Option<f64>; 3]) -> Option<String> {
 fn odd(s: &Settings, odd: &Odd) -> String {
     let names = |channels: &[usize]| words::and(&channels.iter().map(|at| CHANNELS[*at]).collect::<Vec<_>>());
     let valued = |channels: &[(usize, f64)], unit: &str| {
-        let told: Vec<String> = channels.iter().map(|(at, x)| format!("{x:.1}{unit} on {}", CHANNELS[*at])).collect();
+        let value = |x: f64| words::apart(x, &[USUAL.0, USUAL.1, s.n]);
+        let told: Vec<String> =
+            channels.iter().map(|(at, x)| format!("{}{unit} on {}", value(*x), CHANNELS[*at])).collect();
         words::and(&told.iter().map(String::as_str).collect::<Vec<_>>())
     };
     match odd {
@@ -80,12 +82,12 @@ pub fn text(s: &Settings, m: &Measured, paint: &Paint) -> String {
     out += &columns(&CHANNEL, &rows, &[0], paint);
     let found = m.odd(s);
     let mut said = vec![fits(s, m, &found)];
-    if m.over == 0 && m.ragged == 0 {
+    if m.over == 0 && m.ragged == 0 && m.length >= s.n {
         said.push(format!("The length fits: a whole number of half cycles of {} samples.", s.n / 2));
     }
     said.extend(found.iter().map(|found| format!("Warning: {}.", odd(s, found))));
     said.push(match &m.refused {
-        Some(refused) => format!("It would be refused: {}.", words::turned_away(refused)),
+        Some(refusal) => format!("It would be refused: {}.", words::turned_away(refusal)),
         None => "It would be accepted.".into(),
     });
     let lines = said.iter().map(|line| wrapped(line, "    ").replacen("    ", "  ", 1) + "\n");
@@ -94,10 +96,9 @@ pub fn text(s: &Settings, m: &Measured, paint: &Paint) -> String {
 
 /// Whether N is the period of the samples.
 fn fits(s: &Settings, m: &Measured, found: &[Odd]) -> String {
-    let swing: Vec<&str> =
-        CHANNELS.into_iter().zip(&m.channels).filter(|(_, c)| c.period.is_some()).map(|(n, _)| n).collect();
+    let swing: Vec<&str> = m.periods().map(|(at, _)| CHANNELS[at]).collect();
     match (found.iter().any(|odd| matches!(odd, Odd::Period(..))), swing.is_empty()) {
-        (_, true) => format!("Whether N {} fits can't be told: no channel swings.", s.n),
+        (_, true) => format!("Whether N {} fits can't be told: none that is alive swings.", s.n),
         (true, _) => format!("N {} does not fit the period of the samples.", s.n),
         (false, _) => format!("N {} fits the period of {}.", s.n, words::and(&swing)),
     }
@@ -134,10 +135,7 @@ pub fn json(s: &Settings, m: &Measured) -> Json {
         ])
     };
     let warnings = m.odd(s).iter().map(|found| Json::text(&odd(s, found))).collect();
-    let refused = m.refused.as_ref().map_or(Json::Null, |refused| {
-        let (number, place) = (Json::whole(refused.number), Json::whole(refused.place));
-        Json::Object(vec![("number", number), ("place", place), ("sentence", Json::text(&words::refusal(refused)))])
-    });
+    let refused = m.refused.as_ref().map_or(Json::Null, json::refusal);
     Json::Object(vec![
         ("recording", Json::text(&m.name)),
         ("samples", Json::whole(m.length)),
@@ -157,7 +155,7 @@ const HEAD: &str = "recording,samples,half_cycles,over,warnings,refusal,channel,
 pub fn csv(s: &Settings, measured: &[Measured]) -> String {
     let mut out = HEAD.to_string();
     for m in measured {
-        let refusal = m.refused.map_or(0, |refused| refused.number);
+        let refusal = m.refused.as_ref().map_or(0, |refusal| refusal.refused.number);
         let counts = [m.length, m.halves, m.over, m.odd(s).len() as u64, refusal].map(|count| count.to_string());
         for (name, channel) in CHANNELS.iter().zip(&m.channels) {
             out += &csv::line(&[&[m.name.clone()][..], &counts, &row(name, channel)].concat());

@@ -60,7 +60,7 @@ pub fn events(s: &Settings, answers: &[Answer], told: bool) -> String {
         for (part, number, event) in answer.events() {
             let mut fields = fields(s, part, number, event, answer.lost(event));
             if told {
-                fields.extend(explain::told(s, answer, part, event));
+                fields.extend(explain::told(s, answer, event));
             }
             row(fields);
         }

@@ -1,6 +1,9 @@
 //! Each event in sentences: its launch, peak and landing, and why it has or has no score.
 use super::words::{self, CHANNELS};
-use crate::answered::{Answer, Close, Found, Half, Part};
+use crate::answered::{
+    level::{against, borders, reference},
+    Answer, Close, Found, Half,
+};
 use host::Settings;
 use std::cmp::Ordering;
 
@@ -8,28 +11,10 @@ use std::cmp::Ordering;
 pub const LABELS: [&str; 4] = ["launch", "peak", "landing", "score"];
 
 /// An event's launch, peak, landing and score, a sentence each; nothing of one that was not looked at closely.
-pub fn told(s: &Settings, answer: &Answer, part: &Part, event: &Found) -> [String; 4] {
+pub fn told(s: &Settings, answer: &Answer, event: &Found) -> [String; 4] {
     let Some(close) = &event.close else { return Default::default() };
-    [
-        launch(s, answer, part, event, close),
-        peak(s, event, close),
-        landing(s, answer, part, event, close),
-        score(s, event, close),
-    ]
-}
-
-/// The percents of R at which an event of this kind launches and lands.
-fn borders(s: &Settings, kind: u64) -> [u64; 2] {
-    match kind {
-        1 => [s.sag, s.sag + s.hysteresis],
-        2 => [s.interruption, s.interruption + s.hysteresis],
-        _ => [s.swell, s.swell - s.hysteresis],
-    }
-}
-
-/// How an rms value lies to a percent of R, exactly.
-fn against(s: &Settings, sum: u64, percent: u64) -> Ordering {
-    (10_000 * u128::from(sum)).cmp(&(u128::from(percent).pow(2) * words::reference(s)))
+    let lost = answer.lost(event);
+    [launch(s, event, close, lost), peak(s, event, close), landing(s, event, close, lost), score(s, event, close, lost)]
 }
 
 /// The channels that lie so to a percent of R: `a and b are`, `c is`.
@@ -57,7 +42,7 @@ fn misses(missing: [usize; 3]) -> String {
     words::and(&lost.iter().map(String::as_str).collect::<Vec<_>>())
 }
 
-fn launch(s: &Settings, answer: &Answer, part: &Part, event: &Found, close: &Close) -> String {
+fn launch(s: &Settings, event: &Found, close: &Close, lost: u64) -> String {
     let [border, _] = borders(s, event.kind);
     let (lies, side) = match event.kind {
         3 => (Ordering::is_gt as fn(Ordering) -> bool, "above"),
@@ -65,16 +50,19 @@ fn launch(s: &Settings, answer: &Answer, part: &Part, event: &Found, close: &Clo
     };
     let (which, stands) = (which(s, close.launch, border, lies), stands(s, event.kind, close.launch));
     let before = match close.before {
-        _ if event.seen & 1 == 1 => format!("half-cycle {} before it is known, so the start is seen", event.start - 1),
+        Half::Beyond => "the recording begins there, so the start is unseen and may lie earlier".into(),
         Half::Missing(missing) => format!(
             "half-cycle {} before it is unknown (it misses {}), so the start is unseen",
             event.start - 1,
             misses(missing)
         ),
-        _ if part.first_half > 0 => {
-            format!("{} is cut there, so the start is not told and may lie earlier", answer.name)
+        Half::Sums(_) if lost & 1 == 1 => {
+            format!(
+                "this is a piece of the {} that a cut has split, so the start is not told here",
+                words::kind(event.kind)
+            )
         }
-        _ => "the recording begins there, so the start is unseen and may lie earlier".into(),
+        Half::Sums(_) => format!("half-cycle {} before it is known, so the start is seen", event.start - 1),
     };
     format!("{}: {which} {side} {border} % of R ({stands}); {before}.", at(s, event.start))
 }
@@ -96,18 +84,21 @@ fn peak(s: &Settings, event: &Found, close: &Close) -> String {
     )
 }
 
-fn landing(s: &Settings, answer: &Answer, part: &Part, event: &Found, close: &Close) -> String {
+fn landing(s: &Settings, event: &Found, close: &Close, lost: u64) -> String {
     let how = match close.landing {
-        Half::Sums(sums) => {
-            format!("{}: {}; it is known, so the end is seen", ended(s, event.kind, sums), stands(s, event.kind, sums))
-        }
+        Half::Beyond => "the recording ends there, so the end is unseen and may lie later".into(),
         Half::Missing(missing) => {
             format!("it is unknown (it misses {}), so the end is unseen and may lie later", misses(missing))
         }
-        Half::Beyond if part.number < answer.parts.len() => {
-            format!("{} is cut there, so the end is not told and may lie later", answer.name)
+        Half::Sums(_) if lost & 2 == 2 => {
+            format!(
+                "this is a piece of the {} that a cut has split, so the end is not told here",
+                words::kind(event.kind)
+            )
         }
-        Half::Beyond => "the recording ends there, so the end is unseen and may lie later".into(),
+        Half::Sums(sums) => {
+            format!("{}: {}; it is known, so the end is seen", ended(s, event.kind, sums), stands(s, event.kind, sums))
+        }
     };
     let lasted = words::seconds(event.halves(), s.f);
     format!("{}: {how}. Lasted {} = {lasted}.", at(s, event.end), words::count(event.halves(), "half-cycle"))
@@ -126,10 +117,11 @@ fn ended(s: &Settings, kind: u64, sums: [u64; 3]) -> String {
     }
 }
 
-fn score(s: &Settings, event: &Found, close: &Close) -> String {
-    let (Some(score), Some(curve)) = (event.score, close.curve) else { return no_score(s, event) };
+fn score(s: &Settings, event: &Found, close: &Close, lost: u64) -> String {
+    let (Some(score), Some(curve)) = (event.score, close.curve) else { return no_score(s, event, lost) };
+    let whose = if lost == 0 { "" } else { "of this piece alone: " };
     format!(
-        "severity (1000 - {}) / (1000 - {curve}) = {:.3}: retained {}, and {curve} is the curve's value for {}; energy {:.3} s: \
+        "{whose}severity (1000 - {}) / (1000 - {curve}) = {:.3}: retained {}, and {curve} is the curve's value for {}; energy {:.3} s: \
          shortfall {} / ({} x {} x {} x 2 x {}), rounded down to milliseconds; cell {}: {}, {}.",
         event.retained,
         score.severity,
@@ -167,18 +159,22 @@ fn row(s: &Settings, event: &Found) -> String {
         s.n,
         s.r,
         s.r,
-        u128::from(border).pow(2) * words::reference(s)
+        u128::from(border).pow(2) * reference(s)
     )
 }
 
-fn no_score(s: &Settings, event: &Found) -> String {
+fn no_score(s: &Settings, event: &Found, lost: u64) -> String {
     let why = format!("none, reason {}: {}", event.reason, words::reason(event.reason));
-    match event.kind {
-        1 => format!(
-            "{why}; what happened there is not known, so neither severity nor cell is given (shortfall {} = {} s is what was seen).",
-            event.shortfall,
-            words::shortfall_seconds(s, event.shortfall)
-        ),
-        _ => format!("{why}; only sags are scored."),
+    if event.kind != 1 {
+        return format!("{why}; only sags are scored.");
     }
+    let there = match lost {
+        0 => "what happened there is not known",
+        _ => "the recording is cut there and this is a piece of the sag",
+    };
+    format!(
+        "{why}; {there}, so neither severity nor cell is given (shortfall {} = {} s is what was seen).",
+        event.shortfall,
+        words::shortfall_seconds(s, event.shortfall)
+    )
 }

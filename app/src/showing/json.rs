@@ -1,8 +1,11 @@
 //! JSON, as much of it as the program writes, and the answers in it.
 use super::{explain, words};
-use crate::answered::{
-    table::{self, Counts, SETTINGS},
-    Answer, Cut, Found, Part, Split,
+use crate::{
+    answered::{
+        table::{self, Counts, SETTINGS},
+        Answer, Cut, Found, Part, Split,
+    },
+    failure::Refusal,
 };
 use host::{Score, Settings, Table};
 use std::fmt::{self, Display, Formatter, Write};
@@ -70,7 +73,7 @@ fn quoted(text: &str, out: &mut Formatter) -> fmt::Result {
 /// A recording's answers: its half-cycles, its cuts, its parts with their events. `told` adds the sentences of `explain`.
 pub fn recording(s: &Settings, answer: &Answer, told: bool) -> Json {
     let part = |part: &Part| {
-        let events = part.events.iter().map(|found| event(s, answer, part, found, told));
+        let events = part.events.iter().map(|found| event(s, answer, found, told));
         Json::Object(vec![
             ("part", Json::whole(part.number as u64)),
             ("first_half_cycle", Json::whole(part.first_half)),
@@ -88,13 +91,13 @@ pub fn recording(s: &Settings, answer: &Answer, told: bool) -> Json {
 
 /// Where a recording was cut, and the events that this splits; none where a cut lies between events.
 fn cuts(s: &Settings, answer: &Answer) -> Json {
-    let place = |k: Option<u64>| k.map_or(Json::Null, Json::whole);
     let split = |split: &Split| {
         Json::Object(vec![
             ("kind", Json::whole(split.kind)),
             ("kind_word", Json::text(words::kind(split.kind))),
-            ("start", place(split.start)),
-            ("end", place(split.end)),
+            ("start", Json::whole(split.start)),
+            ("end", Json::whole(split.end)),
+            ("untold", Json::whole(split.untold.1 - split.untold.0)),
         ])
     };
     let cut = |cut: &Cut| {
@@ -107,7 +110,7 @@ fn cuts(s: &Settings, answer: &Answer) -> Json {
     Json::List(answer.cuts.iter().map(cut).collect())
 }
 
-fn event(s: &Settings, answer: &Answer, part: &Part, e: &Found, told: bool) -> Json {
+fn event(s: &Settings, answer: &Answer, e: &Found, told: bool) -> Json {
     let class = if e.kind == 1 { Json::text(words::class(e.class)) } else { Json::Null };
     let float = |of: fn(Score) -> f64| e.score.map_or(Json::Null, |score| Json::float(of(score)));
     let mut fields = vec![
@@ -117,6 +120,7 @@ fn event(s: &Settings, answer: &Answer, part: &Part, e: &Found, told: bool) -> J
         ("end", Json::whole(e.end)),
         ("start_seconds", Json::float(words::exact_seconds(e.start, s.f))),
         ("seen", Json::whole(e.seen)),
+        ("cut", Json::whole(answer.lost(e))),
         ("extreme", Json::whole(e.extreme)),
         ("retained", Json::whole(e.retained)),
         ("shortfall", Json::whole(e.shortfall)),
@@ -129,7 +133,7 @@ fn event(s: &Settings, answer: &Answer, part: &Part, e: &Found, told: bool) -> J
         ("energy", float(|score| score.energy)),
     ];
     if told {
-        let sentences = explain::told(s, answer, part, e).map(|sentence| Json::text(&sentence));
+        let sentences = explain::told(s, answer, e).map(|sentence| Json::text(&sentence));
         fields.extend(explain::LABELS.into_iter().zip(sentences));
     }
     Json::Object(fields)
@@ -164,6 +168,16 @@ pub fn table(table: &Table) -> Json {
         ("stray", Json::whole(c.stray)),
         ("shortfall", Json::whole(c.shortfall)),
         ("shortfall_seconds", Json::Number(words::shortfall_seconds(&s, c.shortfall))),
+    ])
+}
+
+/// What was turned away, and why.
+pub fn refusal(refusal: &Refusal) -> Json {
+    Json::Object(vec![
+        ("what", Json::text(&refusal.what)),
+        ("number", Json::whole(refusal.refused.number)),
+        ("place", Json::whole(refusal.refused.place)),
+        ("sentence", Json::text(&words::refusal(&refusal.refused))),
     ])
 }
 

@@ -2,7 +2,7 @@
 use super::{explain, paint::Paint, words};
 use crate::answered::{
     table::{self, Counts},
-    Answer, Cut, Found, Part,
+    Answer, Found, Part,
 };
 use host::{Settings, Table};
 
@@ -58,17 +58,12 @@ pub fn cut_note(s: &Settings, answer: &Answer) -> String {
     if answer.cuts.is_empty() {
         return String::new();
     }
-    let place = |cut: &Cut| format!("half-cycle {} ({})", cut.at, words::seconds(cut.at, s.f));
     let (clean, forced): (Vec<_>, Vec<_>) = answer.cuts.iter().partition(|cut| cut.splits.is_empty());
-    let mut said = format!(
-        "{} is cut into {} parts. Half-cycles and times are those of the whole recording.",
-        answer.name,
-        answer.parts.len()
-    );
+    let mut said = "Half-cycles and times are those of the whole recording.".to_string();
     match clean.len() {
         0 => {}
         few @ 1..=4 => {
-            let places: Vec<String> = clean.iter().map(|cut| place(cut)).collect();
+            let places: Vec<String> = clean.iter().map(|cut| words::place(s, cut)).collect();
             let cuts = if few == 1 { "cut" } else { "cuts" };
             let places = words::and(&places.iter().map(String::as_str).collect::<Vec<_>>());
             said += &format!(" No event reaches over the {cuts} at {places}.");
@@ -76,9 +71,9 @@ pub fn cut_note(s: &Settings, answer: &Answer) -> String {
         many => said += &format!(" No event reaches over {many} of the cuts."),
     }
     for cut in forced {
-        said += &format!(" {}", words::splits(cut, &place(cut)));
+        said += &format!(" {}", words::splits(s, cut));
     }
-    wrapped(&said, "") + "\n"
+    format!("{} is cut into {} parts.\n{}\n", answer.name, answer.parts.len(), wrapped(&said, ""))
 }
 
 const LIST: [&str; 14] = [
@@ -104,14 +99,14 @@ pub fn list(s: &Settings, answer: &Answer, paint: &Paint) -> String {
     for part in &answer.parts {
         out += &heading(s, answer, part, paint);
         if !part.events.is_empty() {
-            let rows: Vec<_> = part.events.iter().enumerate().map(|(at, e)| row(s, at, e)).collect();
+            let rows: Vec<_> = part.events.iter().enumerate().map(|(at, e)| row(s, at, e, answer.lost(e))).collect();
             out += &columns(&LIST, &rows, &[1, 6, 10, 13], paint);
         }
     }
     out
 }
 
-fn row(s: &Settings, at: usize, event: &Found) -> Vec<String> {
+fn row(s: &Settings, at: usize, event: &Found, lost: u64) -> Vec<String> {
     let mut row = vec![(at + 1).to_string(), words::kind(event.kind).into()];
     row.extend([event.start.to_string(), event.end.to_string(), words::seconds(event.start, s.f)]);
     row.extend([words::seconds(event.halves(), s.f), words::seen(event.seen).into()]);
@@ -124,6 +119,9 @@ fn row(s: &Settings, at: usize, event: &Found) -> Vec<String> {
         Some(score) => [format!("{:.3}", score.severity), format!("{:.3} s", score.energy), event.cell.to_string()],
         None => ["none".into(), "none".into(), format!("none: {}", words::reason(event.reason))],
     });
+    if let Some(last) = row.last_mut().filter(|_| lost > 0) {
+        *last += words::PIECE;
+    }
     row
 }
 
@@ -135,7 +133,7 @@ pub fn explained(s: &Settings, answer: &Answer, paint: &Paint) -> String {
         for (at, event) in part.events.iter().enumerate() {
             let title = format!("event {}: {}", at + 1, words::kind(event.kind));
             out += &format!("\n  {}\n", paint.bold(&title));
-            for (label, sentence) in explain::LABELS.iter().zip(explain::told(s, answer, part, event)) {
+            for (label, sentence) in explain::LABELS.iter().zip(explain::told(s, answer, event)) {
                 let sentence = wrapped(&sentence, "             ");
                 out += &format!("    {label:<8} {}\n", sentence.trim_start());
             }

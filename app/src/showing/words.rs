@@ -1,7 +1,11 @@
 //! The rules' words for numbers: refusals, reasons, kinds, types, rows and columns, and how half-cycles read as seconds.
-use crate::answered::{
-    table::{Counts, SETTINGS},
-    Cut, Split,
+use crate::{
+    answered::{
+        level::{against, reference},
+        table::{Counts, SETTINGS},
+        Cut, Split,
+    },
+    failure::Refusal,
 };
 use host::{Refused, Settings};
 
@@ -18,6 +22,9 @@ const MEANINGS: [(&str, &str); 7] = [
 
 /// The channels, in the order of the samples.
 pub const CHANNELS: [&str; 3] = ["a", "b", "c"];
+
+/// What is said behind an event that is a piece of one that a cut has split.
+pub const PIECE: &str = " (a piece: cut)";
 
 /// The rows of the table, by the extreme.
 pub const ROWS: [&str; 5] = ["at most 10 %", "10 to 40 %", "40 to 70 %", "70 to 85 %", "above 85 %"];
@@ -46,9 +53,10 @@ pub fn refusal(refused: &Refused) -> String {
     }
 }
 
-/// A refusal with its number and place.
-pub fn turned_away(refused: &Refused) -> String {
-    format!("refusal {}, place {}: {}", refused.number, refused.place, refusal(refused))
+/// A refusal with its number, its place and what that means.
+pub fn turned_away(Refusal { refused, more, .. }: &Refusal) -> String {
+    let more = if more.is_empty() { String::new() } else { format!(" ({more})") };
+    format!("refusal {}, place {}: {}{more}", refused.number, refused.place, refusal(refused))
 }
 
 fn outside(place: u64) -> String {
@@ -167,20 +175,18 @@ pub fn and(words: &[&str]) -> String {
     }
 }
 
-/// The rms value of a sum of squares in percent of R. A value that is not on a border is never shown as if it were: it gets
-/// as many digits as tell the two apart.
+/// The rms value of a sum of squares in percent of R, never shown as if it were on a border that it is not on.
 pub fn percent(s: &Settings, sum: u64, borders: &[u64]) -> String {
-    let value = 100.0 * (sum as f64 / s.n as f64).sqrt() / s.r as f64;
-    let looks_like = |digits: usize, border: u64| format!("{value:.digits$}") == format!("{border}.{:0<digits$}", "");
-    let off = |border: &&u64| u128::from(**border).pow(2) * reference(s) != 10_000 * u128::from(sum);
-    let misleads = |digits: usize| borders.iter().filter(off).any(|border| looks_like(digits, *border));
-    let digits = (1..12).find(|digits| !misleads(*digits)).unwrap_or(12);
-    format!("{value:.digits$} %")
+    let off: Vec<u64> = borders.iter().copied().filter(|border| against(s, sum, *border).is_ne()).collect();
+    format!("{} %", apart(100.0 * (sum as f64 / s.n as f64).sqrt() / s.r as f64, &off))
 }
 
-/// N x R x R.
-pub fn reference(s: &Settings) -> u128 {
-    u128::from(s.n) * u128::from(s.r) * u128::from(s.r)
+/// A number with as many digits, one at least, as tell it from each of these borders.
+pub fn apart(value: f64, borders: &[u64]) -> String {
+    let looks_like = |digits: usize, border: u64| format!("{value:.digits$}") == format!("{border}.{:0<digits$}", "");
+    let misleads = |digits: usize| borders.iter().any(|border| looks_like(digits, *border));
+    let digits = (1..12).find(|digits| !misleads(*digits)).unwrap_or(12);
+    format!("{value:.digits$}")
 }
 
 /// A time by the clock of the world, from seconds since 1970: `2026-11-15 09:30 UTC`.
@@ -208,18 +214,39 @@ pub fn no_event(c: &Counts) -> String {
     format!("No event in the {seen} that somebody saw; {unseen} unknown.")
 }
 
-/// The events that a cut splits, by name.
-pub fn splits(cut: &Cut, place: &str) -> String {
-    let named = |split: &Split| match (split.start, split.end) {
-        (Some(start), Some(end)) => format!("the {} from half-cycle {start} to {end}", kind(split.kind)),
-        (Some(start), None) => format!("the {} from half-cycle {start} on", kind(split.kind)),
-        (None, end) => format!("the {} from there to half-cycle {}", kind(split.kind), end.unwrap_or(cut.at)),
-    };
-    let named: Vec<String> = cut.splits.iter().map(named).collect();
-    format!(
-        "No place between events was left for the cut at {place}: it splits {}. What is told of these has an unseen end \
-         there, so it has no score and is unplaced, and what lies between the threshold and its hysteresis just after the \
-         cut is told as no event.",
-        and(&named.iter().map(String::as_str).collect::<Vec<_>>())
-    )
+/// Where a cut lies.
+pub fn place(s: &Settings, cut: &Cut) -> String {
+    format!("half-cycle {} ({})", cut.at, seconds(cut.at, s.f))
 }
+
+/// The events that a cut splits, by name.
+pub fn splits(s: &Settings, cut: &Cut) -> String {
+    let named = |what: &str, of: &dyn Fn(&Split) -> bool| {
+        let name = |split: &Split| format!("the {} from half-cycle {} to {}", kind(split.kind), split.start, split.end);
+        let names: Vec<String> = cut.splits.iter().filter(|split| of(split)).map(name).collect();
+        (!names.is_empty()).then(|| format!("{what} {}", and(&names.iter().map(String::as_str).collect::<Vec<_>>())))
+    };
+    let through = named("splits", &|split| split.start < cut.at && cut.at < split.end);
+    let ends = named("hides the end of", &|split| split.end == cut.at);
+    let starts = named("hides the start of", &|split| split.start == cut.at);
+    let pieces = if through.is_some() { PIECES } else { "" };
+    let does: Vec<String> = [through, ends, starts].into_iter().flatten().collect();
+    let mut said = format!(
+        "No place between events was left for the cut at {}: it {}. An end at the cut is unseen, so there is no score.{pieces}",
+        place(s, cut),
+        and(&does.iter().map(String::as_str).collect::<Vec<_>>())
+    );
+    for Split { kind: of, untold: (from, to), .. } in cut.splits.iter().filter(|split| split.untold.0 < split.untold.1)
+    {
+        said += &format!(
+            " Half-cycles {from} to {} of the {} lie between its threshold and the hysteresis, and are told as in no event.",
+            to - 1,
+            kind(*of)
+        );
+    }
+    said
+}
+
+const PIECES: &str =
+    " What is told of a split event is pieces of it, and a score or cell that one has all the same is that \
+                      piece's own.";

@@ -1,7 +1,7 @@
 //! Retained value against duration, on a logarithmic axis, with the severity curve.
 use super::{
     contents::Contents,
-    svg::{at, esc, line, text, whole, wide},
+    svg::{at, esc, line, step, text, whole, wide},
 };
 use crate::{
     answered::{Found, Part},
@@ -55,10 +55,11 @@ pub fn chart(s: &Settings, contents: &Contents) -> String {
 
 fn grid(frame: &Frame) -> String {
     let mut out = String::new();
-    for tick in 0..=(frame.top / 200.0) as usize {
-        let y = frame.y(tick as f64 * 200.0);
+    let apart = step(frame.top, 8.0);
+    for tick in 0..=(frame.top / apart) as usize {
+        let y = frame.y(tick as f64 * apart);
         out += &line("grid", LEFT, y, WIDTH - RIGHT, y);
-        out += &text("tick", "end", LEFT - 8.0, y + 4.0, &format!("{} %", tick * 20));
+        out += &text("tick", "end", LEFT - 8.0, y + 4.0, &format!("{} %", tick as f64 * apart / 10.0));
     }
     let (first, last) = (frame.decades.0.ceil() as i32, frame.decades.1 as i32);
     for power in first..=last {

@@ -13,6 +13,7 @@ use crate::{
     showing::words,
 };
 use host::Settings;
+use std::collections::BTreeSet;
 
 /// Rows of a recording's event list; where there are more, the page says how many and where they are found.
 const MOST_ROWS: usize = 300;
@@ -65,10 +66,7 @@ fn tile(value: &str, label: &str, more: &str) -> String {
 fn site_section(s: &Settings, contents: &Contents) -> String {
     let c = table::counts(contents.table);
     let mut tiles = vec![tile(&words::seconds(c.total, s.f), "recorded", &words::count(c.total, "half-cycle"))];
-    if c.unknown > 0 {
-        let more = format!("{}: nobody saw them", words::count(c.unknown, "half-cycle"));
-        tiles.push(tile(&words::seconds(c.unknown, s.f), "unknown", &more));
-    }
+    tiles.extend(unknown_tile(s, &c));
     tiles.extend([
         tile(&c.sags.to_string(), "sags", &format!("{} unplaced", c.unplaced)),
         tile(&c.interruptions.to_string(), "interruptions", &format!("{} stray", c.stray)),
@@ -87,6 +85,12 @@ fn site_section(s: &Settings, contents: &Contents) -> String {
     )
 }
 
+/// Unknown time, big enough not to be missed, wherever there is any.
+fn unknown_tile(s: &Settings, c: &Counts) -> Option<String> {
+    let more = format!("nobody saw {}", words::count(c.unknown, "half-cycle"));
+    (c.unknown > 0).then(|| tile(&words::seconds(c.unknown, s.f), "unknown", &more))
+}
+
 /// How the recordings on the page stand to the table: making a page adds nothing to it.
 fn relation(contents: &Contents) -> String {
     if contents.holds {
@@ -97,14 +101,18 @@ fn relation(contents: &Contents) -> String {
                     under the table's settings and adds nothing to it: they need not be in it."
             .to_string();
     if let Some((what, counted, shown)) = short(contents) {
-        said += &format!(" They are not all in it: it counts {counted} {what}, and they have {shown}.");
+        said += &format!(" They are not all in it: {what}, {counted} in the table and {shown} in them.");
     }
     said
 }
 
-/// Something of which the recordings have more than the table counts: they can't all be in it then.
+/// Something of which the recordings have more than the table counts: they can't all be in it then. One that is shown twice
+/// need not be in it twice.
 fn short(contents: &Contents) -> Option<(String, u64, u64)> {
-    let own = || contents.recordings.iter().flat_map(|shown| &shown.answer.parts).map(|part| &part.own);
+    let mut prints = BTreeSet::new();
+    let new = |shown: &&Shown| shown.fingerprint.as_ref().is_none_or(|(_, sum)| prints.insert(sum.clone()));
+    let distinct: Vec<&Shown> = contents.recordings.iter().filter(new).collect();
+    let own = || distinct.iter().flat_map(|shown| &shown.answer.parts).map(|part| &part.own);
     let counts = |of: fn(&Counts) -> u64| {
         (of(&table::counts(contents.table)), own().map(|own| of(&table::counts(own))).sum::<u64>())
     };
@@ -145,10 +153,13 @@ fn recording_section(s: &Settings, number: usize, shown: &Shown, part: &Part) ->
     );
     out += &format!("{KEY}{}</div>\n", rms::chart(s, answer, part));
     let unknown = part.picture.as_ref().map_or(&[][..], |picture| &picture.unknown);
-    if !unknown.is_empty() {
-        out += &format!("<p class=\"note\"><b>Unknown:</b> {}.</p>\n", stretches(s, unknown));
+    if let Some(tile) = unknown_tile(s, &c) {
+        out += &format!(
+            "<div class=\"tiles\">{tile}</div><p class=\"note\"><b>Unknown:</b> {}.</p>\n",
+            stretches(s, unknown)
+        );
     }
-    out += &events_table(s, &part.events, &c);
+    out += &events_table(s, answer, part, &c);
     if !shown.note.is_empty() {
         out += &format!("<p class=\"lesson\">{}</p>\n", esc(&shown.note));
     }
@@ -185,7 +196,7 @@ fn part_note(s: &Settings, answer: &Answer, part: &Part) -> String {
     let here = |at: u64| at == part.first_half || at == part.end();
     let cuts: Vec<_> = answer.cuts.iter().filter(|cut| here(cut.at)).collect();
     for cut in cuts.iter().filter(|cut| !cut.splits.is_empty()) {
-        said += &format!(" {}", words::splits(cut, &format!("half-cycle {}", cut.at)));
+        said += &format!(" {}", words::splits(s, cut));
     }
     if cuts.iter().all(|cut| cut.splits.is_empty()) {
         said += " No event reaches over a cut.";
@@ -205,7 +216,8 @@ fn stretches(s: &Settings, unknown: &[(u64, u64)]) -> String {
     said
 }
 
-fn events_table(s: &Settings, events: &[Found], c: &Counts) -> String {
+fn events_table(s: &Settings, answer: &Answer, part: &Part, c: &Counts) -> String {
+    let events = &part.events;
     if events.is_empty() {
         let said = if c.unknown > 0 { words::no_event(c) } else { "No event.".into() };
         return format!("<p class=\"{}\">{}</p>\n", if c.unknown > 0 { "unseen" } else { "note" }, esc(&said));
@@ -216,7 +228,7 @@ fn events_table(s: &Settings, events: &[Found], c: &Counts) -> String {
     out += &head.map(|name| format!("<th>{name}</th>")).concat();
     out += "</tr></thead><tbody>\n";
     for (number, event) in events.iter().take(MOST_ROWS).enumerate() {
-        out += &event_row(s, number + 1, event);
+        out += &event_row(s, number + 1, event, answer.lost(event));
     }
     out += "</tbody></table></div>\n";
     if events.len() > MOST_ROWS {
@@ -226,20 +238,21 @@ fn events_table(s: &Settings, events: &[Found], c: &Counts) -> String {
     out
 }
 
-fn event_row(s: &Settings, number: usize, event: &Found) -> String {
+fn event_row(s: &Settings, number: usize, event: &Found, lost: u64) -> String {
     let kind = words::kind(event.kind);
     let class = if event.kind == 1 { format!(" {}", words::class(event.class)) } else { String::new() };
     let when = |k: u64| format!("{k}<i>{}</i>", words::seconds(k, s.f));
+    let piece = if lost > 0 { words::PIECE } else { "" };
     let (severity, energy, last) = match event.score {
         Some(score) => (
             format!("{:.3}", score.severity),
             format!("{:.3} s", score.energy),
-            format!("cell {}<i>{}</i>", event.cell, esc(&words::cell(event.cell))),
+            format!("cell {}{piece}<i>{}</i>", event.cell, esc(&words::cell(event.cell))),
         ),
         None => (
             "none".into(),
             "none".into(),
-            format!("no score<i>reason {}: {}</i>", event.reason, words::reason(event.reason)),
+            format!("no score{piece}<i>reason {}: {}</i>", event.reason, words::reason(event.reason)),
         ),
     };
     format!(
