@@ -45,3 +45,10 @@ pub fn settings(table: &Table) -> Settings {
         [table[0], table[1], table[2], table[3], table[4], table[5], table[6]];
     Settings { n, r, f, sag, interruption, swell, hysteresis }
 }
+
+/// What a table has grown by, as a table of its own.
+pub fn growth(before: &Table, after: &Table) -> Table {
+    let mut own = *after;
+    own[SETTINGS.len()..].iter_mut().zip(&before[SETTINGS.len()..]).for_each(|(count, before)| *count -= before);
+    own
+}

@@ -23,28 +23,31 @@ pub fn measure(into: &Table, recording: &Recording, cut: bool) -> Measured {
         Err(Failure::Refused(refusal)) => Some(refusal),
         _ => None,
     };
+    let [a, b, c] = percents(&s, samples);
     Measured {
         name: recording.name.clone(),
         length,
         ragged: samples.len() as u64 % 3,
         halves: (length / half).saturating_sub(1),
         over: length % half,
-        channels: [0, 1, 2].map(|channel| one(&s, samples, channel)),
+        channels: [one(samples, 0, a), one(samples, 1, b), one(samples, 2, c)],
         refused,
     }
 }
 
 /// The median of each channel's rms in percent of R; none where no half-cycle of it is whole.
 pub fn medians(s: &Settings, samples: &[i32]) -> [Option<f64>; 3] {
-    [0, 1, 2].map(|channel| spread(s, samples, channel).map(|spread| spread.median))
+    percents(s, samples).map(|mut percents| median(&mut percents))
 }
 
-fn one(s: &Settings, samples: &[i32], channel: usize) -> Channel {
+fn one(samples: &[i32], channel: usize, mut percents: Vec<f64>) -> Channel {
     let own = || samples.iter().skip(channel).step_by(3).copied();
+    let least = percents.iter().copied().fold(f64::INFINITY, f64::min);
+    let greatest = percents.iter().copied().fold(0.0, f64::max);
     Channel {
         missing: own().filter(|x| *x == MISSING).count() as u64,
         out_of_range: own().filter(|x| *x != MISSING && !usable(*x)).count() as u64,
-        rms: spread(s, samples, channel),
+        rms: median(&mut percents).map(|median| Spread { median, least, greatest }),
         held: held(own()),
         period: period(own),
     }
@@ -54,25 +57,28 @@ fn usable(sample: i32) -> bool {
     sample.unsigned_abs() <= LARGEST
 }
 
-/// The rms of the channel's half-cycles, those that lack none of its samples.
-fn spread(s: &Settings, samples: &[i32], channel: usize) -> Option<Spread> {
-    let block = (s.n / 2) as usize * 3;
-    let sum = |block: &[i32]| {
-        let (mut sum, mut whole) = (0, true);
-        for x in block.iter().skip(channel).step_by(3) {
-            let size = if usable(*x) { u64::from(x.unsigned_abs()) } else { 0 };
-            whole &= usable(*x);
-            sum += size * size;
+/// The rms of each channel's half-cycles in percent of R, of those that lack none of its samples. Each half cycle of samples
+/// is summed once.
+fn percents(s: &Settings, samples: &[i32]) -> [Vec<f64>; 3] {
+    let mut percents = [(); 3].map(|()| Vec::with_capacity(samples.len() / (s.n as usize / 2 * 3)));
+    let mut before = [None; 3];
+    for block in samples.chunks_exact(s.n as usize / 2 * 3) {
+        let (mut sums, mut whole) = ([0u64; 3], [true; 3]);
+        for three in block.as_chunks::<3>().0 {
+            for channel in 0..3 {
+                let x = three[channel];
+                whole[channel] &= usable(x);
+                let size = if usable(x) { u64::from(x.unsigned_abs()) } else { 0 };
+                sums[channel] += size * size;
+            }
         }
-        whole.then_some(sum)
-    };
-    let blocks: Vec<Option<u64>> = samples.chunks_exact(block).map(sum).collect();
-    let whole = blocks.windows(2).filter_map(|pair| Some(pair[0]? + pair[1]?));
-    let mut percents: Vec<f64> = whole.map(|sum| halves::percent(s, sum)).collect();
-    let median = median(&mut percents)?;
-    let least = percents.iter().copied().fold(f64::INFINITY, f64::min);
-    let greatest = percents.iter().copied().fold(0.0, f64::max);
-    Some(Spread { median, least, greatest })
+        for channel in 0..3 {
+            let now = whole[channel].then_some(sums[channel]);
+            percents[channel].extend(before[channel].zip(now).map(|(a, b): (u64, u64)| halves::percent(s, a + b)));
+            before[channel] = now;
+        }
+    }
+    percents
 }
 
 /// The middle value, or the mean of the two in the middle; none of no values.

@@ -49,8 +49,9 @@ pub fn about(s: &Settings, recording: &Recording, wish: Wish) -> Result<Answer, 
 pub fn add(table: &mut Table, recording: &Recording, cut: bool) -> Result<Answer, Failure> {
     let s = table::settings(table);
     part_by_part(&s, recording, cut, |number, stretch| {
+        let before = *table;
         host::add(table, stretch.samples)?;
-        let own = alone(&s, stretch.samples)?;
+        let own = table::growth(&before, table);
         Ok(Part { number, first_half: stretch.first_half as u64, events: Vec::new(), own, picture: None })
     })
 }

@@ -4,17 +4,17 @@ use super::halves::window;
 use crate::answered::table;
 use host::{Event, Settings, WORDS};
 
-/// Whether half-cycle k is known: the library adds it alone to a fresh table and says whether it is unknown.
-pub fn known(s: &Settings, samples: &[i32], k: u64) -> bool {
-    let (_, mut table) = host::fresh(s);
-    let added = window(s, samples, k).is_some_and(|window| host::add(&mut table, window).is_ok());
-    added && table::counts(&table).unknown == 0
-}
-
-/// The unknown stretches of a recording, each from its first half-cycle up to but not with its end.
+/// The unknown stretches of a recording, each from its first half-cycle up to but not with its end: the library adds each
+/// half-cycle alone to a fresh table and says whether it is unknown.
 pub fn unknown(s: &Settings, samples: &[i32], halves: u64) -> Vec<(u64, u64)> {
+    let (_, fresh) = host::fresh(s);
+    let known = |k: &u64| {
+        let mut table = fresh;
+        let added = window(s, samples, *k).is_some_and(|window| host::add(&mut table, window).is_ok());
+        added && table::counts(&table).unknown == 0
+    };
     let mut stretches: Vec<(u64, u64)> = Vec::new();
-    for k in (0..halves).filter(|k| !known(s, samples, *k)) {
+    for k in (0..halves).filter(|k| !known(k)) {
         match stretches.last_mut() {
             Some((_, end)) if *end == k => *end = k + 1,
             _ => stretches.push((k, k + 1)),

@@ -39,14 +39,19 @@ pub fn may_wait(path: &OsStr) -> bool {
 /// Reads a recording: raw where its name ends in `.i32` or that is asked for, else CSV; `-` is standard input.
 pub fn read(path: &OsStr, how: How) -> Result<Recording, Failure> {
     let name = name(path);
+    let mut length = 0;
     let input: Box<dyn Read> = match path == "-" {
         true => Box::new(io::stdin().lock()),
-        false => Box::new(File::open(path).map_err(|e| Failure::file(&name, e))?),
+        false => {
+            let file = File::open(path).map_err(|e| Failure::file(&name, e))?;
+            length = file.metadata().map_or(0, |found| found.len());
+            Box::new(file)
+        }
     };
     let mut digest = Digest::new();
     let mut input = Digesting { inner: input, digest: how.fingerprint.then_some(&mut digest) };
     let raw = how.raw || Path::new(path).extension().is_some_and(|e| e.eq_ignore_ascii_case("i32"));
-    let mut made = if raw { raw_samples(&name, &mut input)? } else { csv::samples(&name, &mut input)? };
+    let mut made = if raw { raw_samples(&name, &mut input, length)? } else { csv::samples(&name, &mut input)? };
     made.fingerprint = how.fingerprint.then(|| digest.end());
     Ok(made)
 }
@@ -58,8 +63,9 @@ pub fn fingerprint(bytes: &[u8]) -> (u64, String) {
     digest.end()
 }
 
-fn raw_samples(name: &str, mut input: impl Read) -> Result<Recording, Failure> {
-    let mut bytes = Vec::new();
+/// Raw samples; `length` is how many bytes are to be expected, where that is known.
+fn raw_samples(name: &str, mut input: impl Read, length: u64) -> Result<Recording, Failure> {
+    let mut bytes = Vec::with_capacity(length as usize + 1);
     input.read_to_end(&mut bytes).map_err(|e| Failure::file(name, e))?;
     let (words, rest) = bytes.as_chunks::<4>();
     if !rest.is_empty() {
