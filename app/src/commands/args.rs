@@ -16,7 +16,9 @@ pub struct Takes {
     /// How the files are called where one is wanting, in order; the last may come more than once where `many` says so.
     pub files: &'static [&'static str],
     pub many: bool,
-    /// Options that want a value.
+    /// Whether it takes the seven settings, each an option with a value.
+    pub settings: bool,
+    /// Other options that want a value.
     pub values: &'static [&'static str],
     /// Options that stand alone.
     pub flags: &'static [&'static str],
@@ -35,6 +37,10 @@ pub struct Args {
     pub files: Vec<OsString>,
     values: Vec<(String, OsString)>,
     flags: Vec<String>,
+}
+
+fn is_setting(option: &str) -> bool {
+    option.strip_prefix("--").is_some_and(|name| SETTINGS.contains(&name))
 }
 
 fn usage<T>(why: String) -> Result<T, Failure> {
@@ -78,7 +84,7 @@ impl Args {
                 return usage(format!("{name} takes no value"));
             }
             self.flags.push(name);
-        } else if takes.values.contains(&name.as_str()) {
+        } else if takes.values.contains(&name.as_str()) || takes.settings && is_setting(&name) {
             match joined.or_else(|| rest.next().cloned()) {
                 Some(value) => self.values.push((name, value)),
                 None => return usage(format!("{name} wants a value")),
@@ -130,7 +136,7 @@ impl Args {
 
     /// The table of the site, where one is named; a site and settings of one's own exclude each other.
     pub fn site(&self) -> Result<Option<Table>, Failure> {
-        let own = SETTINGS.iter().any(|name| self.value(&format!("--{name}")).is_some());
+        let own = self.values.iter().any(|(name, _)| is_setting(name));
         match self.value("--site") {
             Some(_) if own => {
                 usage("--site has its settings already: leave out --n, --r, --f and the thresholds".into())

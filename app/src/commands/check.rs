@@ -1,5 +1,8 @@
 //! `check`: whether recordings fit the settings, before anything is added.
-use super::args::{Args, Format, Takes};
+use super::{
+    args::{Args, Format, Takes},
+    events,
+};
 use crate::{
     answered::table::settings,
     asking::measure,
@@ -14,12 +17,7 @@ use crate::{
 };
 use host::Table;
 
-pub const TAKES: Takes = Takes {
-    files: &["RECORDING"],
-    many: true,
-    values: &["--site", "--n", "--r", "--f", "--sag", "--interruption", "--swell", "--hysteresis"],
-    flags: &["--cut", "--raw", "--json", "--csv"],
-};
+pub const TAKES: Takes = events::EXPLAIN;
 
 pub fn run(args: &Args) -> Result<Said, Failure> {
     let format = args.format()?;

@@ -24,7 +24,7 @@ use crate::{
 use host::Settings;
 use std::{f64::consts::TAU, path::Path};
 
-pub const TAKES: Takes = Takes { files: &[], many: false, values: &[], flags: &["--save", "--force"] };
+pub const TAKES: Takes = Takes { files: &[], many: false, settings: false, values: &[], flags: &["--save", "--force"] };
 
 const SETTINGS: Settings = Settings { n: 64, r: 23_000, f: 50, sag: 90, interruption: 10, swell: 110, hysteresis: 2 };
 

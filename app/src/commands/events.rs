@@ -18,15 +18,11 @@ use host::Settings;
 pub const LIST: Takes = Takes {
     files: &["RECORDING"],
     many: true,
-    values: &["--site", "--n", "--r", "--f", "--sag", "--interruption", "--swell", "--hysteresis", "--room"],
+    settings: true,
+    values: &["--site", "--room"],
     flags: &["--cut", "--raw", "--json", "--csv"],
 };
-pub const EXPLAIN: Takes = Takes {
-    files: &["RECORDING"],
-    many: true,
-    values: &["--site", "--n", "--r", "--f", "--sag", "--interruption", "--swell", "--hysteresis"],
-    flags: &["--cut", "--raw", "--json", "--csv"],
-};
+pub const EXPLAIN: Takes = Takes { values: &["--site"], ..LIST };
 
 pub fn list(args: &Args) -> Result<Said, Failure> {
     let room = match args.whole("--room")? {

@@ -24,8 +24,13 @@ use std::{
     time::{SystemTime, UNIX_EPOCH},
 };
 
-pub const TAKES: Takes =
-    Takes { files: &["SITE", "RECORDING"], many: true, values: &["-o"], flags: &["--cut", "--raw", "--force"] };
+pub const TAKES: Takes = Takes {
+    files: &["SITE", "RECORDING"],
+    many: true,
+    settings: false,
+    values: &["-o"],
+    flags: &["--cut", "--raw", "--force"],
+};
 
 /// What a page shows of a recording.
 pub fn wish(cut: bool) -> Wish {

@@ -17,19 +17,17 @@ use crate::{
 use host::{Settings, Table};
 use std::{ffi::OsString, path::Path, time::Duration};
 
-pub const NEW: Takes = Takes {
-    files: &["SITE"],
-    many: false,
-    values: &["--n", "--r", "--f", "--sag", "--interruption", "--swell", "--hysteresis"],
-    flags: &["--json", "--csv"],
-};
+pub const NEW: Takes =
+    Takes { files: &["SITE"], many: false, settings: true, values: &[], flags: &["--json", "--csv"] };
 pub const ADD: Takes = Takes {
     files: &["SITE", "RECORDING"],
     many: true,
+    settings: false,
     values: &["--wait"],
     flags: &["--cut", "--raw", "--json", "--csv"],
 };
-pub const SHOW: Takes = Takes { files: &["SITE"], many: false, values: &[], flags: &["--json", "--csv"] };
+pub const SHOW: Takes =
+    Takes { files: &["SITE"], many: false, settings: false, values: &[], flags: &["--json", "--csv"] };
 
 pub fn new(args: &Args) -> Result<Said, Failure> {
     let (path, format) = (Path::new(&args.files[0]), args.format()?);
