@@ -5,7 +5,7 @@ use host::Settings;
 /// A recording measured.
 pub struct Measured {
     pub name: String,
-    /// Samples of each channel, and how many the last line lacks.
+    /// Samples of each channel, and samples beyond the last that all three have.
     pub length: u64,
     pub ragged: u64,
     /// Half-cycles, and samples of each channel beyond the last whole half cycle.
@@ -60,7 +60,7 @@ pub enum Odd {
 
 /// Where the median of a channel's rms should lie, in percent of R.
 pub const USUAL: (u64, u64) = (80, 120);
-/// A channel that is never above this, in percent of R, is dead.
+/// A channel that never reaches this, in percent of R, is dead.
 pub const DEAD: f64 = 5.0;
 /// N fits where it is the whole number nearest to the period: sampling is locked to the mains.
 const SLACK: f64 = 0.5;

@@ -232,7 +232,7 @@ pub fn splits(s: &Settings, cut: &Cut) -> String {
     let pieces = if through.is_some() { PIECES } else { "" };
     let does: Vec<String> = [through, ends, starts].into_iter().flatten().collect();
     let mut said = format!(
-        "No place between events was left for the cut at {}: it {}. An end at the cut is unseen, so there is no score.{pieces}",
+        "No place between events was left for the cut at {}: it {}. An end at the cut is unseen, and a sag has no score then.{pieces}",
         place(s, cut),
         and(&does.iter().map(String::as_str).collect::<Vec<_>>())
     );
@@ -248,5 +248,34 @@ pub fn splits(s: &Settings, cut: &Cut) -> String {
 }
 
 const PIECES: &str =
-    " What is told of a split event is pieces of it, and a score or cell that one has all the same is that \
-                      piece's own.";
+    " What is told of a split event is pieces of it; a score or cell that one has all the same is its own.";
+
+#[cfg(test)]
+mod tests {
+    use super::{apart, date};
+
+    /// What `date -u -d @SECONDS` says: around leap days, ends of years and of centuries.
+    #[test]
+    fn dates() {
+        for (seconds, told) in [
+            (0, "1970-01-01 00:00 UTC"),
+            (68_255_999, "1972-02-29 23:59 UTC"),
+            (68_256_000, "1972-03-01 00:00 UTC"),
+            (951_782_400, "2000-02-29 00:00 UTC"),
+            (1_709_164_740, "2024-02-28 23:59 UTC"),
+            (1_767_225_599, "2025-12-31 23:59 UTC"),
+            (1_767_225_600, "2026-01-01 00:00 UTC"),
+            (4_107_542_400, "2100-03-01 00:00 UTC"),
+        ] {
+            assert_eq!(date(seconds), told);
+        }
+    }
+
+    #[test]
+    fn digits_that_tell_a_value_from_a_border() {
+        for (value, told) in [(89.94, "89.9"), (89.96, "89.96"), (90.0004, "90.0004"), (50.0, "50.0"), (92.01, "92.01")]
+        {
+            assert_eq!(apart(value, &[90, 92]), told);
+        }
+    }
+}
