@@ -112,7 +112,10 @@ fn missing_dead_stuck_and_unseen_channels_are_told() {
     let told = checked(&folder, &blocks(&[1000; 6]), &KNOWN);
     says(
         &told,
-        &["Whether N 8 fits can't be told: none that is alive swings.", "stuck: 24 samples of a in a row are 1000"],
+        &[
+            "Whether N 8 fits can't be told: no channel that is alive shows a whole cycle.",
+            "stuck: 24 samples of a in a row are 1000",
+        ],
     );
 }
 
@@ -203,10 +206,9 @@ fn check_for_programs() {
     let channels: Vec<&str> = rows.iter().map(|row| row.field("channel")).collect();
     assert_eq!(channels, ["a", "b", "c"]);
     assert_eq!((rows[0].number("missing"), rows[1].number("missing"), rows[0].number("half_cycles")), (1, 0, 39));
-    assert_eq!(
-        (rows[2].field("median_percent"), rows[2].field("period"), rows[2].field("warnings")),
-        ("100.0", "64.0", "0")
-    );
+    let near = |name: &str, wanted: f64| (rows[2].field(name).parse::<f64>().unwrap() - wanted).abs() < 0.01;
+    assert!(near("median_percent", 100.0) && near("period", 64.0), "{csv}");
+    assert_eq!(rows[2].field("warnings"), "0");
     let json = folder.accepted(&[&["check", "k.i32", "--json"][..], &FIT].concat());
     assert!(json.contains("\"recording\":\"k.i32\",\"samples\":1280,\"half_cycles\":39,\"seconds\":0.39,\"over\":0,\"channels\":[{\"channel\":\"a\",\"median_percent\":"), "{json}");
     assert!(json.ends_with("\"warnings\":[],\"refused\":null}]}\n"), "{json}");
@@ -234,6 +236,36 @@ fn a_median_beside_the_border() {
     folder.accepted(&[&["new", "x.site"][..], &FIT].concat());
     let ran = folder.run(&["add", "x.site", "k.i32"]);
     assert!(ran.err.contains("a 79.96 %, b 79.96 %, c 79.96 %"), "{ran:?}");
+    // In the table too; a value on the border is told as that.
+    let levels = |a: i32, b: i32, c: i32| (0..6 * 4).flat_map(|_| [a, b, c]).collect::<Vec<_>>();
+    let told = checked(&folder, &levels(39_999, 40_000, 2_499), &["--n", "8", "--r", "50000", "--f", "50"]);
+    says(
+        &told,
+        &[
+            "a 79.998 79.998 79.998",
+            "b 80.0 80.0 80.0",
+            "c 4.998 4.998 4.998",
+            "(79.998 % on a)",
+            "dead, never at 5 % of R: c.",
+        ],
+    );
+}
+
+/// What cutting would do to events is told before they are added.
+#[test]
+fn what_a_cut_would_split_is_told() {
+    let folder = Folder::new("check-split");
+    let mut levels = vec![1000; 150_020];
+    levels[11..150_001].fill(500);
+    folder.write("long.i32", raw(&blocks(&levels)));
+    let told = folder.accepted(&[&["check", "long.i32", "--cut"][..], &KNOWN].concat());
+    let told = told.split_whitespace().collect::<Vec<_>>().join(" ");
+    says(
+        &told,
+        &["Warning: No place between events was left for the cut at half-cycle 100009", "It would be accepted."],
+    );
+    let json = folder.accepted(&[&["check", "long.i32", "--cut", "--json"][..], &KNOWN].concat());
+    assert!(json.contains("it splits the sag from half-cycle 10 to 150001"), "{json}");
 }
 
 /// With a site, what its table has no room for is told before it is added, and how much room there is.
@@ -250,6 +282,10 @@ fn a_full_site_is_told() {
         ran.err.contains("k.csv: refusal 8") && ran.err.contains("after 10 that came before it; the site has 10 left"),
         "{ran:?}"
     );
+    let json = folder.refused(&["add", "x.site", "k.csv", "k.csv", "k.csv", "--json"], 8, 0).out;
+    assert!(json.contains("0 half-cycles are left (after 10 that came before it; the site has 10 left"), "{json}");
+    let ran = folder.refused(&["check", "k.csv", "k.csv", "k.csv", "--site", "x.site"], 8, 0);
+    assert_eq!(ran.out.matches("It would be accepted.").count(), 2, "one after another: {ran:?}");
     folder.write("long.csv", csv(&blocks(&[1000; 13])));
     let ran = folder.refused(&["check", "long.csv", "--site", "x.site"], 8, 10);
     assert!(ran.out.contains("It would be refused: refusal 8, place 10:"), "{ran:?}");

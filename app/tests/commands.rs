@@ -21,7 +21,7 @@ fn bad_usage_ends_with_2() {
     let folder = Folder::new("usage");
     folder.write("k.csv", csv(&k2()));
     folder.site("x.site");
-    let cases: [(&[&str], &str); 17] = [
+    let cases: [(&[&str], &str); 20] = [
         (&[], "a command is wanting"),
         (&["tell"], "\"tell\" is no command"),
         (&["show"], "SITE is wanting"),
@@ -39,6 +39,9 @@ fn bad_usage_ends_with_2() {
         (&["list", "k.csv", "--site", "x.site", "--f", "50"], "--site has its settings already"),
         (&["list", "-", "-", "--site", "x.site"], "only once"),
         (&["report", "x.site", "k.csv"], "-o FILE.html is wanting"),
+        (&["report", "-", "k.csv", "-o", "x.html"], "a site is a file, and standard input (-) is none"),
+        (&["list", "k.csv", "--site", "-"], "a site is a file, and standard input (-) is none"),
+        (&["show", "--", "--help"], "--help: No such file"),
     ];
     for (args, words) in cases {
         folder.bad(args, words);

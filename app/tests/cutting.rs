@@ -171,7 +171,7 @@ fn a_long_event_is_named_at_each_cut() {
             format!("for the cut at {at}: it splits the sag from half-cycle 49 to 249000. An end at the cut is unseen");
         assert!(told.contains(&wanted), "{told}");
     }
-    assert!(!told.contains("in no event."), "{told}");
+    assert!(!told.contains("told as in no"), "{told}");
     // Launched at 49, and then at 91 percent for most of its time.
     levels[55..249_000].fill(910);
     levels[220_000..220_003].fill(500);
@@ -187,7 +187,9 @@ fn a_long_event_is_named_at_each_cut() {
             told.contains(&format!("for the cut at {at}: it splits the sag from half-cycle 49 to 248999.")),
             "{told}"
         );
-        let wanted = format!("Half-cycles {untold} of the sag lie between its threshold and the hysteresis, and are told as in no event.");
+        let wanted = format!(
+            "Half-cycles {untold} of the sag lie between its threshold and the hysteresis, and are told as in no sag."
+        );
         assert!(told.contains(&wanted), "{told}");
     }
     assert!(told.contains("No event reaches over the cut at half-cycle 48 (0.480 s)."), "{told}");
@@ -200,9 +202,9 @@ fn a_long_event_is_named_at_each_cut() {
     let told =
         folder.accepted(&[&["explain", "band.i32", "--cut"][..], &KNOWN].concat()).replace("\n             ", " ");
     for words in [
-        "this is a piece of the sag that a cut has split, so the end is not told here",
-        "none, reason 2: only the end unseen; the recording is cut there and this is a piece of the sag",
-        "this is a piece of the sag that a cut has split, so the start is not told here",
+        "this is a piece of the sag that a cut has split, so the end is not told.",
+        "none, reason 2: only the end unseen; the recording is cut there, so neither severity nor cell is given",
+        "this is a piece of the sag that a cut has split, so the start is not told.",
         "of this piece alone: severity (1000 - 500) / (1000 - 800) = 2.500",
     ] {
         assert!(told.contains(words), "{words}: {told}");
@@ -252,6 +254,57 @@ fn events_beside_a_cut_are_named_too() {
         "{told}"
     );
     assert!(!told.contains("piece"), "{told}");
+}
+
+/// What a cut hides is kept apart from what it splits and from what a gap or the recording's start hides; and of half-cycles
+/// in the band of an interruption nothing is said but that they are told as in no interruption: a sag covers them.
+#[test]
+fn a_cut_is_not_blamed_for_a_gap() {
+    let folder = Folder::new("cut-blame");
+    let explained = |levels: &[i32], missing: Option<usize>| {
+        let mut samples = blocks(levels);
+        missing.into_iter().for_each(|at| samples[at] = MISSING);
+        folder.write("long.i32", raw(&samples));
+        folder.accepted(&[&["explain", "long.i32", "--cut"][..], &KNOWN].concat()).replace("\n             ", " ")
+    };
+    // From the first half-cycle on and up to the cut, where it ends by itself.
+    let mut levels = vec![1000; 150_001];
+    levels[..100_000].fill(500);
+    let told = explained(&levels, None);
+    for words in [
+        "it hides the end of the sag from half-cycle 0 to 100000.",
+        "the recording begins there, so the start is unseen",
+        "half-cycle 100000 (at 1000.000 s): the recording is cut there, so the end is unseen.",
+        "reason 3: both ends unseen; what happened at one end is not known, and at the other the recording is cut",
+    ] {
+        assert!(told.replace('\n', " ").contains(words), "{words}: {told}");
+    }
+    assert!(!told.contains("piece"), "{told}");
+    let list = folder.accepted(&list("long.i32", &["--cut"]));
+    assert!(list.contains("none: both ends unseen (cut there)\n"), "{list}");
+    // Over the cut, and then into a gap.
+    let mut levels = vec![1000; 150_001];
+    levels[50..130_000].fill(500);
+    let told = explained(&levels, Some(120_060 * 12));
+    let last = told.rsplit("event 1: sag").next().unwrap();
+    assert!(last.contains("this is a piece of the sag that a cut has split, so the start is not told."), "{last}");
+    assert!(last.contains("it is unknown (it misses 1 sample of a), so the end is unseen"), "{last}");
+    assert!(
+        last.contains("reason 3: both ends unseen; what happened at one end is not known, and at the other"),
+        "{last}"
+    );
+    // An interruption in its band over the cut, in a sag.
+    let mut levels = vec![1000; 150_001];
+    levels[50..120_000].fill(110);
+    levels[50..60].fill(0);
+    let told = explained(&levels, None).replace('\n', " ");
+    assert!(
+        told.contains(
+            "of the interruption lie between its threshold and the hysteresis, and are told as in no interruption."
+        ),
+        "{told}"
+    );
+    assert!(!told.contains("in no event"), "{told}");
 }
 
 /// All times and half-cycles are those of the whole recording, in words, in numbers and on the page.

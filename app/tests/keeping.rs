@@ -168,7 +168,11 @@ fn a_page_goes_to_standard_output_or_down_a_pipe() {
     assert!(Command::new("mkfifo").arg(folder.path("pipe")).status().unwrap().success());
     thread::scope(|scope| {
         let reader = scope.spawn(|| folder.read("pipe"));
-        folder.accepted(&["report", "x.site", "k.csv", "-o", "pipe"]);
+        assert_eq!(
+            folder.accepted(&["report", "x.site", "k.csv", "-o", "pipe"]),
+            "",
+            "the page is all there is to say"
+        );
         assert!(reader.join().unwrap().ends_with("</html>\n"));
     });
     assert!(fs::metadata(folder.path("pipe")).unwrap().file_type().is_fifo(), "a pipe stays a pipe");

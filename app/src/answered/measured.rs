@@ -1,4 +1,5 @@
 //! What a recording looks like before the rules are asked: whether it fits the settings that it is read with.
+use super::Cut;
 use crate::failure::Refusal;
 use host::Settings;
 
@@ -12,6 +13,8 @@ pub struct Measured {
     pub halves: u64,
     pub over: u64,
     pub channels: [Channel; 3],
+    /// Where it would be cut.
+    pub cuts: Vec<Cut>,
     /// Why the library would turn it away, and what the place means in the file.
     pub refused: Option<Refusal>,
 }
@@ -61,7 +64,7 @@ pub enum Odd {
 /// Where the median of a channel's rms should lie, in percent of R.
 pub const USUAL: (u64, u64) = (80, 120);
 /// A channel that never reaches this, in percent of R, is dead.
-pub const DEAD: f64 = 5.0;
+pub const DEAD: u64 = 5;
 /// N fits where it is the whole number nearest to the period: sampling is locked to the mains.
 const SLACK: f64 = 0.5;
 
@@ -96,7 +99,7 @@ impl Measured {
 
 impl Channel {
     fn is_dead(&self) -> bool {
-        self.rms.as_ref().is_some_and(|rms| rms.greatest < DEAD)
+        self.rms.as_ref().is_some_and(|rms| rms.greatest < DEAD as f64)
     }
 }
 

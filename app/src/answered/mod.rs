@@ -77,8 +77,8 @@ pub struct Split {
     pub kind: u64,
     pub start: u64,
     pub end: u64,
-    /// The half-cycles of it after the cut, up to but not with the second number, that are told as in no event: they lie
-    /// between the threshold and its hysteresis, and the next part does not see how the event began.
+    /// The half-cycles of it after the cut, up to but not with the second number, that are told as in no event of its kind:
+    /// they lie between the threshold and its hysteresis, and the next part does not see how the event began.
     pub untold: (u64, u64),
 }
 
@@ -133,16 +133,26 @@ impl Answer {
         all
     }
 
-    /// Which ends of an event a cut has taken: 1 for the start plus 2 for the end. What is told is a piece of the event then.
+    /// Which ends of an event a cut has taken: 1 for the start plus 2 for the end.
     pub fn lost(&self, event: &Found) -> u64 {
-        let splits = self.cuts.iter().flat_map(|cut| cut.splits.iter().map(move |split| (cut.at, split)));
-        let of = splits.filter(|(_, w)| w.kind == event.kind && w.start <= event.start && event.end <= w.end);
-        let lost = of.map(|(at, w)| {
-            let start = event.start > w.start || event.start == at;
-            let end = event.end < w.end || event.end == at;
+        let lost = self.splits_of(event).map(|(at, whole)| {
+            let start = event.start > whole.start || event.start == at;
+            let end = event.end < whole.end || event.end == at;
             u64::from(start) + 2 * u64::from(end)
         });
         lost.fold(0, |lost, more| lost | more)
+    }
+
+    /// Whether what is told as an event is a piece of one that a cut has split.
+    pub fn is_piece(&self, event: &Found) -> bool {
+        self.splits_of(event).any(|(_, whole)| (whole.start, whole.end) != (event.start, event.end))
+    }
+
+    /// The splits, each with its cut, of the event that this is, or is a piece of.
+    fn splits_of(&self, event: &Found) -> impl Iterator<Item = (u64, &Split)> {
+        let [kind, start, end] = [event.kind, event.start, event.end];
+        let splits = self.cuts.iter().flat_map(|cut| cut.splits.iter().map(move |split| (cut.at, split)));
+        splits.filter(move |(_, whole)| whole.kind == kind && whole.start <= start && end <= whole.end)
     }
 
     /// Every event with its part and its number there, from 1.

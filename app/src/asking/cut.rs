@@ -85,14 +85,18 @@ impl<'a> Whole<'a> {
 
     /// The events that the stretch's last half-cycle is in, each with its own start and end: the stretch may begin within one.
     fn over(&self, stretch: &Stretch, before: &[Over]) -> Vec<Over> {
-        let (first, length) = (stretch.first_half as u64, self.halves_of(stretch) as u64);
-        let own = stretch.events.iter().flatten().filter(|e| e[2] == length).map(|e| (e[0], first + e[1]));
-        let start = |kind: u64| {
-            let older = before.iter().find(|o| o.kind == kind && first + length <= o.end).map(|o| o.start);
-            older.or(own.clone().find(|(of, _)| *of == kind).map(|(_, start)| start))
+        let first = stretch.first_half as u64;
+        let at = first + self.halves_of(stretch) as u64;
+        let own = stretch.events.iter().flatten().filter(|event| first + event[2] == at);
+        let reaching = |kind: u64| match before.iter().find(|over| over.kind == kind && at <= over.end) {
+            Some(older) => Some(*older),
+            None => own.clone().find(|event| event[0] == kind).map(|event| Over {
+                kind,
+                start: first + event[1],
+                end: self.end(kind, at),
+            }),
         };
-        let reaching = (1..=3).filter_map(|kind| start(kind).map(|start| (kind, start)));
-        reaching.map(|(kind, start)| Over { kind, start, end: self.end(kind, first + length) }).collect()
+        (1..=3).filter_map(reaching).collect()
     }
 
     /// Where an event of this kind ends that goes on up to half-cycle k: where that is unknown, meets the condition that ends

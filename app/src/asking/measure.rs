@@ -13,15 +13,20 @@ use host::{Settings, Table};
 /// The largest sample that the rules allow.
 const LARGEST: u32 = 100_000;
 
-/// Measures a recording under good settings; `into` is the table that it would be added to, cut or not.
-pub fn measure(into: &Table, recording: &Recording, cut: bool) -> Measured {
-    let (s, samples) = (table::settings(into), &recording.samples);
+/// Measures a recording and tries it on a table, cut or not: where it would be accepted, the table grows by it. `site` is the
+/// table as it was before any was tried.
+pub fn measure(site: &Table, grown: &mut Table, recording: &Recording, cut: bool) -> Measured {
+    let (s, samples) = (table::settings(site), &recording.samples);
     let (length, half) = (samples.len() as u64 / 3, s.n / 2);
-    let mut grown = *into;
-    let added = super::add(&mut grown, recording, cut);
-    let refused = match added.map_err(|failure| super::told_of_room(failure, into, &grown)) {
-        Err(Failure::Refused(refusal)) => Some(refusal),
-        _ => None,
+    let mut tried = *grown;
+    let added = super::add(&mut tried, recording, cut);
+    let (cuts, refused) = match added.map_err(|failure| super::told_of_room(failure, site, &tried)) {
+        Ok(answer) => {
+            *grown = tried;
+            (answer.cuts, None)
+        }
+        Err(Failure::Refused(refusal)) => (Vec::new(), Some(refusal)),
+        Err(_) => (Vec::new(), None),
     };
     let [a, b, c] = percents(&s, samples);
     Measured {
@@ -31,6 +36,7 @@ pub fn measure(into: &Table, recording: &Recording, cut: bool) -> Measured {
         halves: (length / half).saturating_sub(1),
         over: length % half,
         channels: [one(samples, 0, a), one(samples, 1, b), one(samples, 2, c)],
+        cuts,
         refused,
     }
 }

@@ -102,6 +102,11 @@ impl Args {
         if self.files.len() > takes.files.len() && !takes.many {
             return usage(format!("{:?} is one file too many", self.files[takes.files.len()]));
         }
+        if takes.files.first() == Some(&"SITE") && self.files[0] == "-"
+            || self.value("--site").is_some_and(|s| s == "-")
+        {
+            return usage("a site is a file, and standard input (-) is none".into());
+        }
         if self.files.iter().filter(|file| *file == "-").count() > 1 {
             return usage("standard input (-) can be read only once".into());
         }

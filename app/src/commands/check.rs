@@ -21,13 +21,18 @@ pub const TAKES: Takes = events::EXPLAIN;
 
 pub fn run(args: &Args) -> Result<Said, Failure> {
     let format = args.format()?;
-    let table = args.site()?.map_or_else(|| fresh(args), Ok)?;
-    let s = settings(&table);
+    let site = args.site()?;
+    let before = site.map_or_else(|| fresh(args), Ok)?;
+    let (s, mut table) = (settings(&before), before);
     let mut measured = Vec::new();
     for file in &args.files {
         let _progress = Progress::on(&format!("checking {}", reading::name(file)));
         let recording = reading::read(file, How { raw: args.flag("--raw"), fingerprint: false })?;
-        measured.push(measure::measure(&table, &recording, args.flag("--cut")));
+        measured.push(measure::measure(&before, &mut table, &recording, args.flag("--cut")));
+        // Those for one site would be added one after another, others each by itself.
+        if site.is_none() {
+            table = before;
+        }
     }
     let text = match format {
         Format::Text => {

@@ -64,7 +64,7 @@ that is dead (never 5 % of R) or stuck (one value for a cycle or longer), of a m
 is not the period, and says whether the recording would be refused. Warnings leave the exit status at 0; a recording that
 would be refused makes it 1.
 
-    --site    takes the settings of a site
+    --site    takes the settings of a site, and tells whether its table has room for the recordings, one after another
     --cut     judges a recording of more than 100,000 half-cycles as `add --cut` would
     --raw     reads recordings as raw 32-bit samples whatever their names, standard input too
 

@@ -40,7 +40,7 @@ pub fn run(given: &[OsString]) -> Result<Said, Failure> {
     let Some((_, takes, help, run)) = COMMANDS.iter().find(|(name, ..)| *name == first) else {
         return Err(Failure::Usage(format!("{first:?} is no command")));
     };
-    if rest.iter().any(|word| word == "--help" || word == "-h") {
+    if rest.iter().take_while(|word| *word != "--").any(|word| word == "--help" || word == "-h") {
         return Ok(help.to_string().into());
     }
     run(&Args::parse(rest, takes)?)

@@ -69,8 +69,9 @@ pub fn run(args: &Args) -> Result<Said, Failure> {
         return Ok(page.into());
     }
     kept::write(Path::new(out), &page, page::MARK, force)?;
-    let out = out.to_string_lossy();
-    Ok(Said::after(format!("{out}: the page was written"), format!("{out}: written\n")))
+    // Down a pipe the page is all there is to say.
+    let said = if Path::new(out).is_file() { format!("{}: written\n", out.to_string_lossy()) } else { String::new() };
+    Ok(Said::after(format!("{}: the page was written", out.to_string_lossy()), said))
 }
 
 /// Whether two names lead to one file; `-` is what standard input reads.

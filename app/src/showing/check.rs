@@ -16,7 +16,7 @@ pub fn warning(name: &str, medians: [Option<f64>; 3]) -> Option<String> {
     }
     medians.iter().flatten().any(|median| off_reference(*median)).then(|| {
         let told = |(channel, median): (&str, Option<f64>)| match median {
-            Some(median) => format!("{channel} {} %", words::apart(median, &[USUAL.0, USUAL.1])),
+            Some(median) => format!("{channel} {} %", percent(median)),
             None => format!("{channel} unseen"),
         };
         let told: Vec<String> = CHANNELS.into_iter().zip(medians).map(told).collect();
@@ -86,6 +86,9 @@ pub fn text(s: &Settings, m: &Measured, paint: &Paint) -> String {
         said.push(format!("The length fits: a whole number of half cycles of {} samples.", s.n / 2));
     }
     said.extend(found.iter().map(|found| format!("Warning: {}.", odd(s, found))));
+    said.extend(
+        m.cuts.iter().filter(|cut| !cut.splits.is_empty()).map(|cut| format!("Warning: {}", words::splits(s, cut))),
+    );
     said.push(match &m.refused {
         Some(refusal) => format!("It would be refused: {}.", words::turned_away(refusal)),
         None => "It would be accepted.".into(),
@@ -98,7 +101,7 @@ pub fn text(s: &Settings, m: &Measured, paint: &Paint) -> String {
 fn fits(s: &Settings, m: &Measured, found: &[Odd]) -> String {
     let swing: Vec<&str> = m.periods().map(|(at, _)| CHANNELS[at]).collect();
     match (found.iter().any(|odd| matches!(odd, Odd::Period(..))), swing.is_empty()) {
-        (_, true) => format!("Whether N {} fits can't be told: none that is alive swings.", s.n),
+        (_, true) => format!("Whether N {} fits can't be told: no channel that is alive shows a whole cycle.", s.n),
         (true, _) => format!("N {} does not fit the period of the samples.", s.n),
         (false, _) => format!("N {} fits the period of {}.", s.n, words::and(&swing)),
     }
@@ -109,13 +112,19 @@ const CHANNEL: [&str; 8] =
 
 fn row(name: &str, channel: &Channel) -> Vec<String> {
     let rms = match &channel.rms {
-        Some(rms) => [rms.median, rms.least, rms.greatest].map(|percent| format!("{percent:.1}")),
+        Some(rms) => [rms.median, rms.least, rms.greatest].map(percent),
         None => ["unseen", "unseen", "unseen"].map(String::from),
     };
     let mut row = [&[name.to_string()][..], &rms].concat();
     row.extend([channel.missing, channel.out_of_range, channel.held.samples].map(|count| count.to_string()));
     row.push(channel.period.map_or("none".into(), |period| format!("{period:.1}")));
     row
+}
+
+/// A percentage that looks like none of the borders that it is not on.
+fn percent(value: f64) -> String {
+    let borders = [DEAD, USUAL.0, USUAL.1].into_iter().filter(|border| value != *border as f64);
+    words::apart(value, &borders.collect::<Vec<_>>())
 }
 
 /// A measured recording for programs.
@@ -134,7 +143,9 @@ pub fn json(s: &Settings, m: &Measured) -> Json {
             ("period", float(channel.period)),
         ])
     };
-    let warnings = m.odd(s).iter().map(|found| Json::text(&odd(s, found))).collect();
+    let odd = m.odd(s).into_iter().map(|found| odd(s, &found));
+    let splits = m.cuts.iter().filter(|cut| !cut.splits.is_empty()).map(|cut| words::splits(s, cut));
+    let warnings = odd.chain(splits).map(|warning| Json::text(&warning)).collect();
     let refused = m.refused.as_ref().map_or(Json::Null, json::refusal);
     Json::Object(vec![
         ("recording", Json::text(&m.name)),
@@ -158,7 +169,12 @@ pub fn csv(s: &Settings, measured: &[Measured]) -> String {
         let refusal = m.refused.as_ref().map_or(0, |refusal| refusal.refused.number);
         let counts = [m.length, m.halves, m.over, m.odd(s).len() as u64, refusal].map(|count| count.to_string());
         for (name, channel) in CHANNELS.iter().zip(&m.channels) {
-            out += &csv::line(&[&[m.name.clone()][..], &counts, &row(name, channel)].concat());
+            let float = |number: Option<f64>| number.map_or("".to_string(), |number| number.to_string());
+            let rms = channel.rms.as_ref();
+            let rms = [rms.map(|rms| rms.median), rms.map(|rms| rms.least), rms.map(|rms| rms.greatest)].map(float);
+            let found = [channel.missing, channel.out_of_range, channel.held.samples].map(|count| count.to_string());
+            let own = [&[name.to_string()][..], &rms, &found, &[float(channel.period)]].concat();
+            out += &csv::line(&[&[m.name.clone()][..], &counts, &own].concat());
         }
     }
     out

@@ -13,8 +13,33 @@ pub const LABELS: [&str; 4] = ["launch", "peak", "landing", "score"];
 /// An event's launch, peak, landing and score, a sentence each; nothing of one that was not looked at closely.
 pub fn told(s: &Settings, answer: &Answer, event: &Found) -> [String; 4] {
     let Some(close) = &event.close else { return Default::default() };
-    let lost = answer.lost(event);
-    [launch(s, event, close, lost), peak(s, event, close), landing(s, event, close, lost), score(s, event, close, lost)]
+    let taken = Taken { ends: answer.lost(event), piece: answer.is_piece(event) };
+    [
+        launch(s, event, close, taken),
+        peak(s, event, close),
+        landing(s, event, close, taken),
+        score(s, event, close, taken),
+    ]
+}
+
+/// What cuts have taken of an event: 1 for the start plus 2 for the end, and whether it is only a piece.
+#[derive(Clone, Copy)]
+struct Taken {
+    ends: u64,
+    piece: bool,
+}
+
+impl Taken {
+    /// Why an end that a cut has taken is not told.
+    fn told(&self, event: &Found, end: &str) -> String {
+        match self.piece {
+            true => format!(
+                "this is a piece of the {} that a cut has split, so the {end} is not told",
+                words::kind(event.kind)
+            ),
+            false => format!("the recording is cut there, so the {end} is unseen"),
+        }
+    }
 }
 
 /// The channels that lie so to a percent of R: `a and b are`, `c is`.
@@ -42,7 +67,7 @@ fn misses(missing: [usize; 3]) -> String {
     words::and(&lost.iter().map(String::as_str).collect::<Vec<_>>())
 }
 
-fn launch(s: &Settings, event: &Found, close: &Close, lost: u64) -> String {
+fn launch(s: &Settings, event: &Found, close: &Close, taken: Taken) -> String {
     let [border, _] = borders(s, event.kind);
     let (lies, side) = match event.kind {
         3 => (Ordering::is_gt as fn(Ordering) -> bool, "above"),
@@ -56,12 +81,7 @@ fn launch(s: &Settings, event: &Found, close: &Close, lost: u64) -> String {
             event.start - 1,
             misses(missing)
         ),
-        Half::Sums(_) if lost & 1 == 1 => {
-            format!(
-                "this is a piece of the {} that a cut has split, so the start is not told here",
-                words::kind(event.kind)
-            )
-        }
+        Half::Sums(_) if taken.ends & 1 == 1 => taken.told(event, "start"),
         Half::Sums(_) => format!("half-cycle {} before it is known, so the start is seen", event.start - 1),
     };
     format!("{}: {which} {side} {border} % of R ({stands}); {before}.", at(s, event.start))
@@ -84,18 +104,13 @@ fn peak(s: &Settings, event: &Found, close: &Close) -> String {
     )
 }
 
-fn landing(s: &Settings, event: &Found, close: &Close, lost: u64) -> String {
+fn landing(s: &Settings, event: &Found, close: &Close, taken: Taken) -> String {
     let how = match close.landing {
         Half::Beyond => "the recording ends there, so the end is unseen and may lie later".into(),
         Half::Missing(missing) => {
             format!("it is unknown (it misses {}), so the end is unseen and may lie later", misses(missing))
         }
-        Half::Sums(_) if lost & 2 == 2 => {
-            format!(
-                "this is a piece of the {} that a cut has split, so the end is not told here",
-                words::kind(event.kind)
-            )
-        }
+        Half::Sums(_) if taken.ends & 2 == 2 => taken.told(event, "end"),
         Half::Sums(sums) => {
             format!("{}: {}; it is known, so the end is seen", ended(s, event.kind, sums), stands(s, event.kind, sums))
         }
@@ -117,9 +132,9 @@ fn ended(s: &Settings, kind: u64, sums: [u64; 3]) -> String {
     }
 }
 
-fn score(s: &Settings, event: &Found, close: &Close, lost: u64) -> String {
-    let (Some(score), Some(curve)) = (event.score, close.curve) else { return no_score(s, event, lost) };
-    let whose = if lost == 0 { "" } else { "of this piece alone: " };
+fn score(s: &Settings, event: &Found, close: &Close, taken: Taken) -> String {
+    let (Some(score), Some(curve)) = (event.score, close.curve) else { return no_score(s, event, taken) };
+    let whose = if taken.piece { "of this piece alone: " } else { "" };
     format!(
         "{whose}severity (1000 - {}) / (1000 - {curve}) = {:.3}: retained {}, and {curve} is the curve's value for {}; energy {:.3} s: \
          shortfall {} / ({} x {} x {} x 2 x {}), rounded down to milliseconds; cell {}: {}, {}.",
@@ -163,14 +178,16 @@ fn row(s: &Settings, event: &Found) -> String {
     )
 }
 
-fn no_score(s: &Settings, event: &Found, lost: u64) -> String {
+fn no_score(s: &Settings, event: &Found, taken: Taken) -> String {
     let why = format!("none, reason {}: {}", event.reason, words::reason(event.reason));
     if event.kind != 1 {
         return format!("{why}; only sags are scored.");
     }
-    let there = match lost {
-        0 => "what happened there is not known",
-        _ => "the recording is cut there and this is a piece of the sag",
+    let unseen = 3 - event.seen;
+    let there = match (unseen & taken.ends, unseen & !taken.ends) {
+        (0, _) => "what happened there is not known",
+        (_, 0) => "the recording is cut there",
+        _ => "what happened at one end is not known, and at the other the recording is cut",
     };
     format!(
         "{why}; {there}, so neither severity nor cell is given (shortfall {} = {} s is what was seen).",

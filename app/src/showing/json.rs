@@ -177,7 +177,7 @@ pub fn refusal(refusal: &Refusal) -> Json {
         ("what", Json::text(&refusal.what)),
         ("number", Json::whole(refusal.refused.number)),
         ("place", Json::whole(refusal.refused.place)),
-        ("sentence", Json::text(&words::refusal(&refusal.refused))),
+        ("sentence", Json::text(&words::why(refusal))),
     ])
 }
 

@@ -99,14 +99,15 @@ pub fn list(s: &Settings, answer: &Answer, paint: &Paint) -> String {
     for part in &answer.parts {
         out += &heading(s, answer, part, paint);
         if !part.events.is_empty() {
-            let rows: Vec<_> = part.events.iter().enumerate().map(|(at, e)| row(s, at, e, answer.lost(e))).collect();
+            let rows: Vec<_> =
+                part.events.iter().enumerate().map(|(at, e)| row(s, at, e, words::cut(answer, e))).collect();
             out += &columns(&LIST, &rows, &[1, 6, 10, 13], paint);
         }
     }
     out
 }
 
-fn row(s: &Settings, at: usize, event: &Found, lost: u64) -> Vec<String> {
+fn row(s: &Settings, at: usize, event: &Found, cut: &str) -> Vec<String> {
     let mut row = vec![(at + 1).to_string(), words::kind(event.kind).into()];
     row.extend([event.start.to_string(), event.end.to_string(), words::seconds(event.start, s.f)]);
     row.extend([words::seconds(event.halves(), s.f), words::seen(event.seen).into()]);
@@ -116,12 +117,11 @@ fn row(s: &Settings, at: usize, event: &Found, lost: u64) -> Vec<String> {
         _ => ["-".into(), "-".into()],
     });
     row.extend(match event.score {
-        Some(score) => [format!("{:.3}", score.severity), format!("{:.3} s", score.energy), event.cell.to_string()],
-        None => ["none".into(), "none".into(), format!("none: {}", words::reason(event.reason))],
+        Some(score) => {
+            [format!("{:.3}", score.severity), format!("{:.3} s", score.energy), format!("{}{cut}", event.cell)]
+        }
+        None => ["none".into(), "none".into(), format!("none: {}{cut}", words::reason(event.reason))],
     });
-    if let Some(last) = row.last_mut().filter(|_| lost > 0) {
-        *last += words::PIECE;
-    }
     row
 }
 

@@ -3,7 +3,7 @@ use crate::{
     answered::{
         level::{against, reference},
         table::{Counts, SETTINGS},
-        Cut, Split,
+        Answer, Cut, Found, Split,
     },
     failure::Refusal,
 };
@@ -23,8 +23,14 @@ const MEANINGS: [(&str, &str); 7] = [
 /// The channels, in the order of the samples.
 pub const CHANNELS: [&str; 3] = ["a", "b", "c"];
 
-/// What is said behind an event that is a piece of one that a cut has split.
-pub const PIECE: &str = " (a piece: cut)";
+/// What is said behind an event that a cut has split or that it has taken an end of.
+pub fn cut(answer: &Answer, event: &Found) -> &'static str {
+    match (answer.is_piece(event), answer.lost(event)) {
+        (true, _) => " (a piece: cut)",
+        (false, 0) => "",
+        (false, _) => " (cut there)",
+    }
+}
 
 /// The rows of the table, by the extreme.
 pub const ROWS: [&str; 5] = ["at most 10 %", "10 to 40 %", "40 to 70 %", "70 to 85 %", "above 85 %"];
@@ -37,7 +43,7 @@ pub const COLUMNS: [&str; 8] =
     ["< 1 cycle", "< 0.1 s", "0.1-0.5 s", "0.5-1 s", "1-3 s", "3-20 s", "20-60 s", "60 s up"];
 
 /// Why something was turned away.
-pub fn refusal(refused: &Refused) -> String {
+fn refusal(refused: &Refused) -> String {
     let place = refused.place;
     match refused.number {
         1 => outside(place),
@@ -53,10 +59,15 @@ pub fn refusal(refused: &Refused) -> String {
     }
 }
 
-/// A refusal with its number, its place and what that means.
-pub fn turned_away(Refusal { refused, more, .. }: &Refusal) -> String {
+/// Why something was turned away, with what the place means in its file.
+pub fn why(Refusal { refused, more, .. }: &Refusal) -> String {
     let more = if more.is_empty() { String::new() } else { format!(" ({more})") };
-    format!("refusal {}, place {}: {}{more}", refused.number, refused.place, refusal(refused))
+    format!("{}{more}", refusal(refused))
+}
+
+/// A refusal with its number and place.
+pub fn turned_away(refusal: &Refusal) -> String {
+    format!("refusal {}, place {}: {}", refusal.refused.number, refusal.refused.place, why(refusal))
 }
 
 fn outside(place: u64) -> String {
@@ -239,9 +250,9 @@ pub fn splits(s: &Settings, cut: &Cut) -> String {
     for Split { kind: of, untold: (from, to), .. } in cut.splits.iter().filter(|split| split.untold.0 < split.untold.1)
     {
         said += &format!(
-            " Half-cycles {from} to {} of the {} lie between its threshold and the hysteresis, and are told as in no event.",
+            " Half-cycles {from} to {} of the {kind} lie between its threshold and the hysteresis, and are told as in no {kind}.",
             to - 1,
-            kind(*of)
+            kind = kind(*of)
         );
     }
     said

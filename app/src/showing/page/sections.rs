@@ -228,7 +228,7 @@ fn events_table(s: &Settings, answer: &Answer, part: &Part, c: &Counts) -> Strin
     out += &head.map(|name| format!("<th>{name}</th>")).concat();
     out += "</tr></thead><tbody>\n";
     for (number, event) in events.iter().take(MOST_ROWS).enumerate() {
-        out += &event_row(s, number + 1, event, answer.lost(event));
+        out += &event_row(s, number + 1, event, words::cut(answer, event));
     }
     out += "</tbody></table></div>\n";
     if events.len() > MOST_ROWS {
@@ -238,21 +238,20 @@ fn events_table(s: &Settings, answer: &Answer, part: &Part, c: &Counts) -> Strin
     out
 }
 
-fn event_row(s: &Settings, number: usize, event: &Found, lost: u64) -> String {
+fn event_row(s: &Settings, number: usize, event: &Found, cut: &str) -> String {
     let kind = words::kind(event.kind);
     let class = if event.kind == 1 { format!(" {}", words::class(event.class)) } else { String::new() };
     let when = |k: u64| format!("{k}<i>{}</i>", words::seconds(k, s.f));
-    let piece = if lost > 0 { words::PIECE } else { "" };
     let (severity, energy, last) = match event.score {
         Some(score) => (
             format!("{:.3}", score.severity),
             format!("{:.3} s", score.energy),
-            format!("cell {}{piece}<i>{}</i>", event.cell, esc(&words::cell(event.cell))),
+            format!("cell {}{cut}<i>{}</i>", event.cell, esc(&words::cell(event.cell))),
         ),
         None => (
             "none".into(),
             "none".into(),
-            format!("no score{piece}<i>reason {}: {}</i>", event.reason, words::reason(event.reason)),
+            format!("no score{cut}<i>reason {}: {}</i>", event.reason, words::reason(event.reason)),
         ),
     };
     format!(
