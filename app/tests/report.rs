@@ -121,6 +121,13 @@ fn the_axis_of_depth_has_few_labels() {
     let chart = page.split_once("Depth against duration").unwrap().1.split_once("</svg>").unwrap().0;
     assert!(chart.matches(" %</text>").count() <= 10, "{chart}");
     assert!(chart.contains(">2000 %</text>"), "{chart}");
+    // The names of the thresholds draw together, and don't lie on each other.
+    let height = |name: &str| {
+        let label = page.split(&format!("<text class=\"name {name}\" text-anchor=\"start\"")).nth(1).unwrap();
+        label.split("y=\"").nth(1).unwrap().split('"').next().unwrap().parse::<f64>().unwrap()
+    };
+    let [swell, sag, interruption] = ["swell", "sag", "interruption"].map(height);
+    assert!(swell + 12.0 < sag && sag + 12.0 < interruption, "{swell} {sag} {interruption}");
 }
 
 #[test]

@@ -142,12 +142,15 @@ fn thresholds(frame: &Frame, s: &Settings) -> String {
         ("sag", s.sag, s.sag + s.hysteresis, format!("sag < {} %", s.sag)),
         ("interruption", s.interruption, s.interruption + s.hysteresis, format!("interruption < {} %", s.interruption)),
     ];
+    // From the top down: with a large swell the thresholds draw together, and their names must not lie on each other.
+    let mut free = f64::MIN;
     for (class, begins, ends, said) in kinds {
         let (y, back) = (frame.y(begins as f64), frame.y(ends as f64));
         out += &rect(&format!("back {class}"), LEFT, y.min(back), WIDTH - LEFT - RIGHT, (y - back).abs());
         out += &line(&format!("threshold {class}"), LEFT, y, WIDTH - RIGHT, y);
-        let word = if ends > begins { y + 9.0 } else { y - 1.0 };
+        let word = if ends > begins { y + 9.0 } else { y - 1.0 }.max(free);
         out += &text(&format!("name {class}"), "start", WIDTH - RIGHT + 6.0, word, &said);
+        free = word + 13.0;
     }
     out
 }
