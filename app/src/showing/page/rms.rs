@@ -1,13 +1,12 @@
 //! The curves of a recording: rms of each channel over time with the thresholds, its unknown stretches and its events.
 //! The curves are a picture drawn from the samples; the events, their peaks and what is unknown are the library's.
-use super::svg::{at, esc, line, rect, step, text, whole, wide};
+use super::svg::{at, esc, line, rect, step, text, whole, wide, WIDTH};
 use crate::{
     answered::{Answer, Curve, Found, Part},
     showing::words,
 };
 use host::Settings;
 
-const WIDTH: f64 = 960.0;
 const LEFT: f64 = 92.0;
 const RIGHT: f64 = 136.0;
 const TOP: f64 = 24.0;

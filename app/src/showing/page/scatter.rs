@@ -1,7 +1,7 @@
 //! Retained value against duration, on a logarithmic axis, with the severity curve.
 use super::{
     contents::Contents,
-    svg::{at, esc, line, step, text, whole, wide},
+    svg::{at, esc, line, step, text, whole, wide, WIDTH},
 };
 use crate::{
     answered::{Found, Part},
@@ -10,7 +10,6 @@ use crate::{
 use host::Settings;
 use std::collections::BTreeSet;
 
-const WIDTH: f64 = 960.0;
 const LEFT: f64 = 60.0;
 const RIGHT: f64 = 24.0;
 const TOP: f64 = 14.0;

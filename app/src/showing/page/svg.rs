@@ -1,5 +1,8 @@
 //! Pieces of SVG.
 
+/// The width of every drawing.
+pub const WIDTH: f64 = 960.0;
+
 /// Text that may hold any character, for HTML and SVG.
 pub fn esc(text: &str) -> String {
     text.replace('&', "&amp;").replace('<', "&lt;").replace('>', "&gt;").replace('"', "&quot;")

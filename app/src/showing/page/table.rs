@@ -1,12 +1,10 @@
 //! The site's table: its half-cycles as one bar, its sags as a heat map.
-use super::svg::{esc, line, rect, text, whole};
+use super::svg::{esc, line, rect, text, whole, WIDTH};
 use crate::{
     answered::table::{cells, counts},
     showing::words,
 };
 use host::Table;
-
-const WIDTH: f64 = 960.0;
 
 /// Healthy, disturbed and unknown half-cycles as one bar, which shrinks with the page. Unknown is hatched, has the colour of
 /// neither, and is never too narrow to be seen.
