@@ -1,4 +1,5 @@
 // The boundary for C and Rust. Settings are seven numbers, an event is eight and a site table 57, in the order of the rules.
+use numbers::copy;
 use rules::Event;
 use rules::Listed;
 use rules::Refusal;
@@ -7,8 +8,7 @@ use rules::Settings;
 use rules::Table;
 use rules::Taken;
 ghost use mathlib.Core.Path.{_≡_};
-ghost use lib.Seq.{paste};
-ghost use lib.ListN.{length, take, drop};
+ghost use lib.ListN.{length};
 ghost use Rattle.rules.specs.Scores.{reasonOf, scoring, reasonNumber};
 ghost use Rattle.rules.specs.Site.{cellOf};
 ghost use Rattle.rules.specs.Refusals.{numberOf, placeIn, listed, written, freshened, added};
@@ -207,7 +207,7 @@ pub extern "C" fn burr_list(
     ensures { λ x. ⌜ now (events .exit) ≡ written (settingsFrom n r f sag interruption swell hysteresis) (now (samples .entry)) (now (events .entry)) ⌝ }
 {
     let s = settings(n, r, f, sag, interruption, swell, hysteresis);
-    let listed = sags::list::list(s, samples, events);
+    let listed = list::list(s, samples, events);
     match listed {
         Listed::Events(count) => {
             *answer = count;
@@ -218,19 +218,6 @@ pub extern "C" fn burr_list(
             number_of(refusal)
         }
     }
-}
-
-// The forty cells of a table's numbers.
-fn cells_of(words: [u64; 57]) -> [u64; 40]
-    ensures { λ x. ⌜ x ≡ take 40 (drop 11 words) ⌝ }
-{
-    let mut cells = [0; 40];
-    let mut i: usize = 0;
-    while i < 40 {
-        cells[i] = words[11 + i];
-        i += 1;
-    }
-    cells
 }
 
 // The table that 57 numbers are.
@@ -246,7 +233,8 @@ fn table_of(words: [u64; 57]) -> Table
         words[5],
         words[6],
     );
-    let cells = cells_of(words);
+    let mut cells = [0; 40];
+    copy(&words[11..51], &mut cells, 0);
     Table {
         settings,
         total: words[7],
@@ -263,44 +251,38 @@ fn table_of(words: [u64; 57]) -> Table
     }
 }
 
-// Numbers of a table with other cells.
-fn with_cells(words: [u64; 57], cells: [u64; 40]) -> [u64; 57]
-    ensures { λ x. ⌜ x ≡ paste words 11 cells 40 ⌝ }
-{
-    let mut w = words;
-    let mut i: usize = 0;
-    while i < 40 {
-        w[11 + i] = cells[i];
-        i += 1;
-    }
-    w
-}
-
 // A table's 57 numbers.
 fn words_of(t: Table) -> [u64; 57]
     ensures { λ x. ⌜ x ≡ tableWords t ⌝ }
 {
     let s = t.settings;
-    let mut w = [0; 57];
-    w[0] = s.n;
-    w[1] = s.r;
-    w[2] = s.f;
-    w[3] = s.sag;
-    w[4] = s.interruption;
-    w[5] = s.swell;
-    w[6] = s.hysteresis;
-    w[7] = t.total;
-    w[8] = t.healthy;
-    w[9] = t.disturbed;
-    w[10] = t.unknown;
-    w[51] = t.unplaced;
-    w[52] = t.sags;
-    w[53] = t.interruptions;
-    w[54] = t.swells;
-    w[55] = t.stray;
-    w[56] = t.shortfall;
     let cells = t.cells;
-    with_cells(w, cells)
+    let head = [
+        s.n,
+        s.r,
+        s.f,
+        s.sag,
+        s.interruption,
+        s.swell,
+        s.hysteresis,
+        t.total,
+        t.healthy,
+        t.disturbed,
+        t.unknown,
+    ];
+    let tail = [
+        t.unplaced,
+        t.sags,
+        t.interruptions,
+        t.swells,
+        t.stray,
+        t.shortfall,
+    ];
+    let mut w = [0; 57];
+    copy(&head, &mut w, 0);
+    copy(&tail, &mut w, 51);
+    copy(&cells, &mut w, 11);
+    w
 }
 
 // The number of an answer that takes or refuses: 0 where it takes.
@@ -341,7 +323,7 @@ pub extern "C" fn burr_fresh(
     ensures { λ x. ⌜ now (table .exit) ≡ tableWords (freshened (settingsFrom n r f sag interruption swell hysteresis) .table) ⌝ }
 {
     let s = settings(n, r, f, sag, interruption, swell, hysteresis);
-    let site = sags::site::fresh(s);
+    let site = site::fresh(s);
     let made = site.table;
     let answer = site.answer;
     *table = words_of(made);
@@ -357,7 +339,7 @@ pub extern "C" fn burr_add(table: &mut [u64; 57], samples: &[i32], place: &mut u
     ensures { λ x. ⌜ now (table .exit) ≡ tableWords (added (tableFrom (now (table .entry))) (now (samples .entry)) .table) ⌝ }
 {
     let words = *table;
-    let site = sags::site::add(table_of(words), samples);
+    let site = site::add(table_of(words), samples);
     let grown = site.table;
     let taken = site.answer;
     *table = words_of(grown);

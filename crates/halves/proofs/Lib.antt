@@ -1,4 +1,3 @@
 -- What the proofs of more than one function cite.
-pub mod Signed
-pub mod Sixes
+pub mod Squares
 pub mod Windows

@@ -1,5 +1,4 @@
--- What a pass over a window finds is what the rules say of its half-cycle, and what the flags over a whole run say of its first bad
--- sample. Assumes nothing.
+-- What a pass over a window finds is what the rules say of its half-cycle. Assumes nothing.
 use Prim.Native.Nat.{ℕ, zero, suc, _+_, _*_, _≤_, _<_}
 use mathlib.Core.Path.{_≡_, refl, ap, _∙_}
 use mathlib.Core.Bool.{Bool, true, false, not, _||_, cond}
@@ -7,26 +6,18 @@ use mathlib.Core.List.{List}
 use native.Mathlib.Numerals.{add-one, add-two}
 use native.Mathlib.Omega.{arith}
 use borrow.Author.Tests.{lt-ltb}
-use lib.Dec.{ltb}
 use lib.IntN.{ℤ, pos}
 use lib.ListN.{length, getD, length-take, length-drop}
 use lib.Seq.{getD-take, getD-drop}
 use Rattle.rules.specs.Bounded.{any}
-use Rattle.rules.specs.Recorder.{sampleAt, missing, inRange, firstBad}
+use Rattle.rules.specs.Recorder.{sampleAt, missing, inRange}
 use Rattle.rules.specs.Halves.{samplesOf, square, begin, anyMissing, squares, sumsAt, halvesOf, halfAt}
-use Rattle.rules.specs.Events.{sixBelow, sixSums}
 use Rattle.rules.specs.declared.Settings.{Settings}
 use Rattle.rules.specs.declared.Half.the-variants.{Unknown, Known}
 use Rattle.rules.proofs.Ranges.{Good}
 use Rattle.rules.proofs.Bounded.{any-same, sum-same}
-use Rattle.rules.proofs.Samples.{any-at, sum-le, first-found, low, square-low}
-use Rattle.halves.specs.Windows.{window, allInRange, missingIn, squaresIn, sumsIn, halfIn, sixIn, Ranged, Low}
-
--- ---- a whole run: a bad sample is found exactly where the flags say that there is one
-
-pub bad-is : (xs : List ℤ) → ltb (firstBad xs) (length xs) ≡ not (allInRange xs)
-unfolding firstBad allInRange
-bad-is xs = first-found (λ i. inRange (getD xs i (pos 0))) (length xs)
+use Rattle.rules.proofs.Samples.{any-at, sum-le, low, square-low}
+use Rattle.halves.specs.Windows.{window, missingIn, squaresIn, sumsIn, halfIn, Ranged, Low}
 
 -- ---- a window that lacks no sample is low, and so are its sums so far
 
@@ -52,10 +43,6 @@ any-threes p (suc n) =
     rw (e, e₀, add-one, add-two, any-threes p n)
     (or-three (any (λ i. any (λ c. p (3 * i + c)) 3) n) (p (3 * n)) (p (suc (3 * n))) (p (suc (suc (3 * n)))))
 
-six-same : (f g : ℕ → List ℕ) (n : ℕ) → ((j : ℕ) → j < n → f j ≡ g j) → sixBelow f n ≡ sixBelow g n
-six-same f g zero h = refl
-six-same f g (suc n) h = rw (six-same f g n (λ j l. h j (omega arith)), h n (omega arith))
-
 -- ---- the window of half-cycle k
 
 module _ (s : Settings) (xs : List ℤ) (k : ℕ) (fits : 3 * begin s k + 3 * s .n ≤ length xs) where
@@ -68,10 +55,10 @@ module _ (s : Settings) (xs : List ℤ) (k : ℕ) (fits : 3 * begin s k + 3 * s 
   window-at : (i : ℕ) → i < 3 * s .n → getD (window s xs k) i (pos 0) ≡ getD xs (3 * begin s k + i) (pos 0)
   window-at i l = rw (getD-take, getD-drop)
 
-  window-samples : samplesOf (window s xs k) ≡ s .n
+  pub window-samples : samplesOf (window s xs k) ≡ s .n
   window-samples = omega (arith, window-length)
 
-  sample-is : (c i : ℕ) → c < 3 → i < s .n → sampleAt (window s xs k) c i ≡ sampleAt xs c (begin s k + i)
+  pub sample-is : (c i : ℕ) → c < 3 → i < s .n → sampleAt (window s xs k) c i ≡ sampleAt xs c (begin s k + i)
   sample-is c i l m =
       let e : 3 * begin s k + (3 * i + c) ≡ 3 * (begin s k + i) + c = omega arith in
       window-at (3 * i + c) (omega arith) ∙ ap (λ (j : ℕ). getD xs j (pos 0)) e
@@ -97,13 +84,6 @@ module _ (s : Settings) (xs : List ℤ) (k : ℕ) (fits : 3 * begin s k + 3 * s 
       turned : (b : Bool) → cond b Unknown (Known (sumsAt s xs k)) ≡ cond (not b) (Known (sumsAt s xs k)) Unknown
       turned true = refl
       turned false = refl
-
-  pub window-six : sixIn (window s xs k) ≡ sixSums s xs k
-  unfolding sixIn sixSums
-  window-six =
-      rw window-samples
-      (six-same _ _ (s .n)
-      (λ i l. rw (sample-is 0 i (omega arith) l, sample-is 1 i (omega arith) l, sample-is 2 i (omega arith) l)))
 
   pub window-ranged : Ranged xs → Ranged (window s xs k)
   window-ranged h i l =

@@ -1,2 +1,2 @@
--- What the passes over a run of samples find.
+-- What the passes over a window find.
 pub mod Windows

@@ -1,14 +1,13 @@
--- What one pass over a window, or over a whole run, finds. A window is a run of its own, which begins at its first sample of channel a.
+-- What one pass over a window finds. A window is a run of its own, which begins at its first sample of channel a.
 use Prim.Native.Nat.{ℕ, _*_, _≤_, _<_}
 use mathlib.Core.Path.{_≡_}
 use mathlib.Core.Bool.{Bool, true, cond}
 use mathlib.Core.List.{List}
 use lib.IntN.{ℤ, pos, natAbs}
 use lib.ListN.{length, getD, take, drop}
-use Rattle.rules.specs.Bounded.{any, all, sum}
+use Rattle.rules.specs.Bounded.{any, sum}
 use Rattle.rules.specs.Recorder.{sampleAt, missing, inRange}
 use Rattle.rules.specs.Halves.{samplesOf, square, begin}
-use Rattle.rules.specs.Events.{sixParts, sixBelow}
 use Rattle.rules.specs.declared.Settings.{Settings}
 use Rattle.rules.specs.declared.Sums.{Sums}
 use Rattle.rules.specs.declared.Half.{Half}
@@ -17,10 +16,6 @@ use Rattle.rules.specs.declared.Half.the-variants.{Unknown, Known}
 -- the window of half-cycle k: N samples of each channel from sample k x N/2
 abbrev pub window : Settings → List ℤ → ℕ → List ℤ
 window s xs k = take (3 * s .n) (drop (3 * begin s k) xs)
-
--- every sample is in range, or missing
-unfoldable pub allInRange : List ℤ → Bool
-allInRange xs = all (λ i. inRange (getD xs i (pos 0))) (length xs)
 
 -- some sample is missing
 unfoldable pub missingIn : List ℤ → Bool
@@ -36,13 +31,6 @@ sumsIn w = record { a = squaresIn w 0 (samplesOf w); b = squaresIn w 1 (samplesO
 unfoldable pub halfIn : List ℤ → Half
 halfIn w = cond (missingIn w) Unknown (Known (sumsIn w))
 
--- the six sums
-abbrev pub sixUpTo : List ℤ → ℕ → List ℕ
-sixUpTo w n = sixBelow (λ i. sixParts (sampleAt w 0 i) (sampleAt w 1 i) (sampleAt w 2 i)) n
-
-unfoldable pub sixIn : List ℤ → List ℕ
-sixIn w = sixUpTo w (samplesOf w)
-
 -- every sample is in range or missing, told of each place
 abbrev pub Ranged : List ℤ → Type 0
 Ranged w = (i : ℕ) → i < length w → inRange (getD w i (pos 0)) ≡ true
@@ -50,7 +38,3 @@ Ranged w = (i : ℕ) → i < length w → inRange (getD w i (pos 0)) ≡ true
 -- every sample lies from -100,000 to 100,000, and none is missing
 abbrev pub Low : List ℤ → Type 0
 Low w = (i : ℕ) → i < length w → natAbs (getD w i (pos 0)) ≤ 100000
-
--- six numbers, each at most b
-abbrev pub Sixes : ℕ → List ℕ → Type 0
-Sixes b six = (i : ℕ) → getD six i 0 ≤ b

@@ -88,7 +88,7 @@ fn write_events(words: &[u64], n: u64)
 
 // The line of a recording that is listed into these numbers.
 fn write_line(name: &[u8], samples: &[i32], words: &mut [u64]) {
-    let listed = sags::list::list(settings(), samples, words);
+    let listed = list::list(settings(), samples, words);
     print::text(name);
     match listed {
         Listed::Events(n) => write_events(words, n),
@@ -176,7 +176,7 @@ fn write_taken(taken: Taken) {
 fn offer(name: &[u8], t: Table, samples: &[i32], n: usize) -> Table
     requires { ⌜ n ≤ length (now samples) ⌝ }
 {
-    let site = sags::site::add(t, &samples[..n]);
+    let site = site::add(t, &samples[..n]);
     let answer = site.answer;
     print::text(name);
     write_taken(answer);
@@ -238,7 +238,7 @@ fn offer_dip(name: &[u8], t: Table, v: i32) -> Table {
 
 // A fresh table that is offered several recordings, refused ones among them.
 fn write_site() {
-    let fresh = sags::site::fresh(settings());
+    let fresh = site::fresh(settings());
     let t0 = fresh.table;
     let t1 = offer_dip(b"site, K2:", t0, 500);
     let t2 = offer_blocks(b"site, no samples:", t1, [1000; 8], 0);
@@ -254,7 +254,7 @@ fn write_site() {
 fn write_zeros() {
     let mut s = settings();
     s.f = 55;
-    let fresh = sags::site::fresh(s);
+    let fresh = site::fresh(s);
     let answer = fresh.answer;
     let zeros = fresh.table;
     print::text(b"55 Hz:");

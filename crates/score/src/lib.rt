@@ -17,7 +17,7 @@ ghost use Rattle.rules.specs.Site.{placeOf, rowOf, columnOf, cellAt, cellOf};
 fn settings_good(s: Settings) -> bool
     ensures { λ r. ⌜ r ≡ settingsGood s ⌝ }
 {
-    halves::first_bad_setting(s) == 0
+    checks::first_bad_setting(s) == 0
 }
 
 // N x R x R.

@@ -7,10 +7,11 @@ use borrow.Author.Needs.{needs}
 use denote.Ref.{now}
 use lib.IntN.{pos}
 use lib.ListN.{length, getD}
+use mir.Syntax.{w32}
+use mir.ValLaws.{toZ-ofZ}
 use Rattle.rules.specs.Bounded.{any}
 use Rattle.rules.specs.Recorder.{missing}
 use Rattle.halves.specs.Windows.{missingIn}
-use Rattle.halves.proofs.Signed.{missing-is}
 use Rattle.halves.proofs.has_missing.Statement.{statement}
 use Rattle.halves.proofs.has_missing.Tie as tie
 
@@ -23,11 +24,14 @@ abbrev μ-loop : tie.MeasureT-loop
 loop-holds : tie.Need-loop-holds Inv-loop μ-loop
 loop-holds c = (omega arith, refl)
 
-mul-found : tie.Need-mul-found Inv-loop μ-loop
-mul-found c = search needs
+mul-is-missing : tie.Need-mul-is-missing Inv-loop μ-loop
+mul-is-missing c = search needs
 
-shared-slice-copy-out-found : tie.Need-shared-slice-copy-out-found Inv-loop μ-loop
-shared-slice-copy-out-found c = search needs
+shared-slice-copy-out-is-missing : tie.Need-shared-slice-copy-out-is-missing Inv-loop μ-loop
+shared-slice-copy-out-is-missing c = search needs
+
+is-missing-requires : tie.Need-is-missing-requires Inv-loop μ-loop
+is-missing-requires c κs = search needs
 
 add-i : tie.Need-add-i Inv-loop μ-loop
 add-i c = search needs
@@ -37,9 +41,9 @@ loop-less c = search needs
 
 loop-again : tie.Need-loop-again Inv-loop μ-loop
 loop-again c =
-    let at = c .before .before in
+    let at = c .before .before .before in
     let x = getD (now (at .before .args .w)) (at .loop .i) (pos 0) in
-    (omega arith, rw (add-one, missing-is x (record { sfits = c .found .given }), at .loop .inv .1))
+    (omega arith, rw (add-one, c .is-missing .ensures, toZ-ofZ w32 x (record { sfits = c .before .is-missing-arg .given }), at .loop .inv .1))
 
 returns : tie.Need-returns Inv-loop μ-loop
 unfolding missingIn
@@ -51,4 +55,14 @@ returns c =
 pub has-missing-spec : {M : Type 1} → statement M
 has-missing-spec =
     tie.close
-    (tie.spec Inv-loop μ-loop loop-holds mul-found shared-slice-copy-out-found add-i loop-less loop-again returns)
+    (tie.spec
+    Inv-loop
+    μ-loop
+    loop-holds
+    mul-is-missing
+    shared-slice-copy-out-is-missing
+    is-missing-requires
+    add-i
+    loop-less
+    loop-again
+    returns)

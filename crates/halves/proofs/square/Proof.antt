@@ -6,7 +6,7 @@ use lib.IntN.{ℤ, natAbs}
 use lib.Signed.{nonNeg}
 use mir.Syntax.{w64}
 use mir.Val.{Fits}
-use Rattle.halves.proofs.Signed.{widens, product-fits, square-fits, read-back}
+use Rattle.halves.proofs.Squares.{widens, product-fits, square-fits, read-back}
 use Rattle.halves.proofs.square.Statement.{statement}
 use Rattle.halves.proofs.square.Tie as tie
 

@@ -8,7 +8,7 @@ use Rattle.known.proofs.offer.Reads as reads
 use Rattle.known.proofs.offer.Lts as lts
 use Rattle.known.proofs.write_taken.Reads as write-taken-reads
 use Rattle.print.proofs.text.Reads as text-reads
-use Rattle.sags.proofs.site.add.Reads as add-reads
+use Rattle.site.proofs.add.Reads as add-reads
 
 -- src/main.rt:172:35
 slice-aggregate-add : tie.Need-slice-aggregate-add

@@ -1,0 +1,2 @@
+-- What the pass over a run of samples finds.
+pub mod Flags

@@ -1,0 +1,141 @@
+// What the recorder hands over, checked: refusals 1 to 6, and how many half-cycles there are.
+ghost use mathlib.Core.Path.{_≡_};
+ghost use Rattle.rules.specs.Recorder.{badSetting, missing, inRange, firstBad};
+ghost use Rattle.rules.specs.Halves.{halvesOf};
+ghost use Rattle.rules.specs.Refusals.{settingsCheck, recordingCheck};
+ghost use Rattle.checks.specs.Flags.{allInRange};
+use numbers::quotient;
+use numbers::remainder;
+use rules::Refusal;
+use rules::Settings;
+use rules::Taken;
+
+// The number of the first setting that is outside its range; 0 where none is.
+pub fn first_bad_setting(s: Settings) -> u64
+    ensures { λ r. ⌜ r ≡ badSetting s ⌝ }
+{
+    let even = s.n % 2 == 0;
+    let n = (8 <= s.n) & (s.n <= 512) & even;
+    let r = (1000 <= s.r) & (s.r <= 50000);
+    let f = (s.f == 50) | (s.f == 60);
+    let sag = (50 <= s.sag) & (s.sag <= 95);
+    let interruption = (1 <= s.interruption) & (s.interruption <= 20);
+    let swell = (105 <= s.swell) & (s.swell <= 150);
+    let hysteresis = s.hysteresis <= 5;
+    if !n {
+        return 1;
+    }
+    if !r {
+        return 2;
+    }
+    if !f {
+        return 3;
+    }
+    if !sag {
+        return 4;
+    }
+    if !interruption {
+        return 5;
+    }
+    if !swell {
+        return 6;
+    }
+    if !hysteresis {
+        return 7;
+    }
+    0
+}
+
+// Refusal 1.
+pub fn check_settings(s: Settings) -> Taken
+    ensures { λ r. ⌜ r ≡ settingsCheck s ⌝ }
+{
+    let bad = first_bad_setting(s);
+    if bad == 0 {
+        return Taken::Accepted;
+    }
+    Taken::Refused(Refusal::Setting(bad))
+}
+
+// H, how many half-cycles a recording has.
+pub fn count_halves(s: Settings, samples: &[i32]) -> u64
+    ensures { λ r. ⌜ r ≡ halvesOf s (now (samples .entry)) ⌝ }
+{
+    let per_channel = (samples.len() / 3) as u64;
+    let steps = quotient(2 * per_channel, s.n);
+    if steps == 0 {
+        return 0;
+    }
+    steps - 1
+}
+
+// The one value that means "missing".
+const MISSING: i32 = -2147483648;
+
+// How far from 0 a sample may lie.
+const LIMIT: i32 = 100000;
+
+// Whether a sample is missing.
+pub fn is_missing(x: i32) -> bool
+    ensures { λ r. ⌜ r ≡ missing x ⌝ }
+{
+    x == MISSING
+}
+
+// Whether a sample is in range, or missing.
+fn is_in_range(x: i32) -> bool
+    ensures { λ r. ⌜ r ≡ inRange x ⌝ }
+{
+    is_missing(x) | ((-LIMIT <= x) & (x <= LIMIT))
+}
+
+// Whether every sample is in range: one pass of flags, with no branch.
+fn all_in_range(samples: &[i32]) -> bool
+    ensures { λ r. ⌜ r ≡ allInRange (now (samples .entry)) ⌝ }
+{
+    let mut good = true;
+    let mut i: usize = 0;
+    while i < samples.len() {
+        good = good & is_in_range(samples[i]);
+        i += 1;
+    }
+    good
+}
+
+// The index of the first sample that is out of range; the length where there is none.
+fn first_bad(samples: &[i32]) -> usize
+    ensures { λ r. ⌜ r ≡ firstBad (now (samples .entry)) ⌝ }
+{
+    let mut i: usize = 0;
+    while i < samples.len() {
+        if !is_in_range(samples[i]) {
+            return i;
+        }
+        i += 1;
+    }
+    i
+}
+
+// Refusals 2 to 6, in their order. The place of a bad sample is searched only where the flags say that there is one.
+pub fn check_recording(s: Settings, samples: &[i32]) -> Taken
+    ensures { λ r. ⌜ r ≡ recordingCheck s (now (samples .entry)) ⌝ }
+{
+    let n = s.n;
+    let per_channel = (samples.len() / 3) as u64;
+    if samples.len() % 3 != 0 {
+        return Taken::Refused(Refusal::Uneven);
+    }
+    if per_channel < n {
+        return Taken::Refused(Refusal::Short);
+    }
+    if remainder(per_channel, n / 2) != 0 {
+        return Taken::Refused(Refusal::Ragged);
+    }
+    if count_halves(s, samples) > 100000 {
+        return Taken::Refused(Refusal::Long);
+    }
+    if !all_in_range(samples) {
+        return Taken::Refused(Refusal::Sample(first_bad(samples) as u64));
+    }
+    Taken::Accepted
+}

@@ -1,0 +1,2 @@
+-- The machine of a kind, as definitions over the rules; proofs/ ties it to them.
+pub mod Machine

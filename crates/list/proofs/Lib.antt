@@ -1,0 +1,6 @@
+pub mod Slots
+pub mod Writing
+pub mod Tallies
+pub mod Visits
+pub mod Turns
+pub mod Answers

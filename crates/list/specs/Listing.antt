@@ -1,0 +1,143 @@
+-- The two passes of the lister, as the code runs them: over the machine's states. proofs/ ties them to the rules.
+use Prim.Native.Nat.{ℕ, suc, _+_, _*_, _≤_}
+use mathlib.Core.Path.{_≡_}
+use mathlib.Core.Bool.{Bool, true, false, not, _&&_, cond}
+use mathlib.Core.List.{List, _++_}
+use lib.ListN.{length, drop}
+use lib.Seq.{sets}
+use lib.IntN.{ℤ}
+use Rattle.rules.specs.Bounded.{before, bit, count}
+use Rattle.rules.specs.Recorder.{settingsGood}
+use Rattle.rules.specs.Halves.{known, halfAt, halvesOf}
+use Rattle.rules.specs.Events.{inEvent, starts, retainedOf, three, sixSums, typeOf}
+use Rattle.rules.specs.EventList.{kindNumber, ofSag, eventFrom, wordsOf}
+use Rattle.rules.specs.Refusals.{recordingCheck}
+use Rattle.rules.specs.declared.Settings.{Settings}
+use Rattle.rules.specs.declared.Half.{Half}
+use Rattle.rules.specs.declared.Kind.{Kind}
+use Rattle.rules.specs.declared.Kind.the-variants.{Sag, Interruption, Swell}
+use Rattle.rules.specs.declared.Event.{Event}
+use Rattle.rules.specs.declared.Taken.the-variants.{Accepted}
+use Rattle.kinds.specs.Machine.{marksOf, levelBy, levelOf, goesBy, closed, opens}
+use Rattle.kinds.specs.declared.Marks.{Marks}
+use Rattle.kinds.specs.declared.Thresholds.{Thresholds}
+use Rattle.kinds.specs.declared.Level.{Level}
+use Rattle.kinds.specs.declared.Open.{Open}
+use Rattle.list.specs.declared.Tally.{Tally}
+use Rattle.list.specs.declared.Pending.{Pending}
+use Rattle.list.specs.declared.Visited.{Visited}
+use Rattle.list.specs.declared.Pass.{Pass}
+
+-- ---- the counting pass
+
+unfoldable pub tallied : Thresholds → Tally → Half → Tally
+tallied m t v =
+    let l = levelBy (m .full) (m .sag .from) v in
+    let sag = goesBy Sag (m .sag) (t .sag) l in
+    let interruption = goesBy Interruption (m .interruption) (t .interruption) l in
+    let swell = goesBy Swell (m .swell) (t .swell) l in
+    record {
+      sag = sag;
+      interruption = interruption;
+      swell = swell;
+      n =
+          t .n
+          + (bit (sag && not (t .sag)) + bit (interruption && not (t .interruption)) + bit (swell && not (t .swell)));
+    }
+
+-- the tally before half-cycle k
+unfoldable pub tallyOf : Settings → (ℕ → Half) → ℕ → Tally
+tallyOf s h k =
+    record {
+      sag = before (inEvent s h Sag) k;
+      interruption = before (inEvent s h Interruption) k;
+      swell = before (inEvent s h Swell) k;
+      n = count (starts s h Sag) k + count (starts s h Interruption) k + count (starts s h Swell) k;
+    }
+
+-- ---- the writing pass
+
+abbrev pub seenNumber : Bool → Bool → ℕ
+seenNumber start end = bit start + 2 * bit end
+
+-- the event that half-cycle `end` ends
+unfoldable pub finishedBy : Settings → List ℤ → Kind → Open → ℕ → Bool → Event
+finishedBy s xs kind o end isKnown =
+    record {
+      kind = kindNumber kind;
+      start = o .start;
+      end = end;
+      seen = seenNumber (o .seen) isKnown;
+      extreme = o .extreme;
+      retained = retainedOf s (o .extreme);
+      shortfall = ofSag kind (three (o .short));
+      class = ofSag kind (typeOf (sixSums s xs (o .at)));
+    }
+
+-- the machine of a kind stands before half-cycle k, and a slot that waits lies within the room
+pub record Ready (s : Settings) (xs : List ℤ) (kind : Kind) (k : ℕ) (p : Pending) (room : ℕ) : Type 0 where
+  pub state : p .event ≡ opens s (halfAt s xs) kind k
+  pub slot : p .event .inside ≡ true → 8 * p .slot + 8 ≤ room
+
+-- what a visit asks
+pub record Visiting (s : Settings) (xs : List ℤ) (kind : Kind) (m : Marks) (seen : Bool) (k : ℕ) (p : Pending) (l : Level) (n room : ℕ) : Type 0 where
+  pub good-settings : settingsGood s ≡ true
+  pub accepted : recordingCheck s xs ≡ Accepted
+  pub marks : m ≡ marksOf s kind
+  pub known-before : seen ≡ before (λ j. known (halfAt s xs j)) k
+  pub high : k ≤ halvesOf s xs
+  pub ready : Ready s xs kind k p room
+  pub levels : l ≡ levelOf s (halfAt s xs k)
+  pub few : n ≤ 300003
+
+unfoldable pub visited : Settings → List ℤ → Kind → ℕ → Pending → ℕ → Visited
+visited s xs kind k p n =
+    record {
+      pending =
+          record {
+            event = opens s (halfAt s xs) kind (suc k);
+            slot = cond (starts s (halfAt s xs) kind k) n (p .slot);
+          };
+      n = n + bit (starts s (halfAt s xs) kind k);
+    }
+
+-- the run after a visit: the words of an event that half-cycle k ends are in its slot
+unfoldable pub closes : Settings → List ℤ → Kind → ℕ → Pending → List ℕ → List ℕ
+closes s xs kind k p out =
+    let w = wordsOf (eventFrom s xs kind (p .event .start)) in
+    cond (p .event .inside && not (inEvent s (halfAt s xs) kind k)) (sets out (8 * p .slot) w) out
+
+pub record ReadyAll (s : Settings) (xs : List ℤ) (k : ℕ) (p : Pass) (room : ℕ) : Type 0 where
+  pub known-before : p .known ≡ before (λ j. known (halfAt s xs j)) k
+  pub few : p .n ≤ 3 * k
+  pub sag : Ready s xs Sag k (p .sag) room
+  pub interruption : Ready s xs Interruption k (p .interruption) room
+  pub swell : Ready s xs Swell k (p .swell) room
+
+-- before half-cycle 0 nothing goes on
+abbrev pub idle : Pending
+idle = record { event = closed; slot = 0 }
+
+abbrev pub startPass : Pass
+startPass = record { known = false; n = 0; sag = idle; interruption = idle; swell = idle }
+
+unfoldable pub turned : Settings → List ℤ → ℕ → Pass → Pass
+turned s xs k p =
+    let a = visited s xs Sag k (p .sag) (p .n) in
+    let b = visited s xs Interruption k (p .interruption) (a .n) in
+    let c = visited s xs Swell k (p .swell) (b .n) in
+    record {
+      known = known (halfAt s xs k);
+      n = c .n;
+      sag = a .pending;
+      interruption = b .pending;
+      swell = c .pending;
+    }
+
+unfoldable pub turnedOut : Settings → List ℤ → ℕ → Pass → List ℕ → List ℕ
+turnedOut s xs k p out =
+    closes s xs Swell k (p .swell) (closes s xs Interruption k (p .interruption) (closes s xs Sag k (p .sag) out))
+
+-- o with e in its place at the front
+abbrev pub over : List ℕ → List ℕ → List ℕ
+over e o = e ++ drop (length e) o

@@ -1,0 +1,2 @@
+-- What proofs of more than one crate cite.
+pub mod Runs

@@ -1,0 +1,3 @@
+-- What the proofs of more than one function cite.
+pub mod Signed
+pub mod Sixes

@@ -1,0 +1,2 @@
+-- What the pass over a window finds for the sag type.
+pub mod Six

@@ -1,0 +1,4 @@
+pub mod Surveys
+pub mod Gains
+pub mod Passes
+pub mod Counts
