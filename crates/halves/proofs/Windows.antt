@@ -10,7 +10,7 @@ use lib.IntN.{ℤ, pos}
 use lib.ListN.{length, getD, length-take, length-drop}
 use lib.Seq.{getD-take, getD-drop}
 use Rattle.rules.specs.Bounded.{any}
-use Rattle.rules.specs.Recorder.{sampleAt, missing, inRange}
+use Rattle.rules.specs.Recorder.{sampleAt, missing}
 use Rattle.rules.specs.Halves.{samplesOf, square, begin, anyMissing, squares, sumsAt, halvesOf, halfAt}
 use Rattle.rules.specs.declared.Settings.{Settings}
 use Rattle.rules.specs.declared.Half.the-variants.{Unknown, Known}

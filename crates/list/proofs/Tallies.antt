@@ -6,7 +6,6 @@ use native.Mathlib.Numerals.{add-one}
 use native.Mathlib.Omega.{arith}
 use lib.ListN.{length}
 use lib.IntN.{ℤ}
-use Rattle.rules.specs.Bounded.{before}
 use Rattle.rules.specs.Halves.{halfAt, halvesOf}
 use Rattle.rules.specs.Events.{inEvent, starts}
 use Rattle.rules.specs.EventList.{eventsOf}

@@ -1,14 +1,14 @@
 // The event list: a pass that counts the events of all kinds, the room tested, and a pass that writes each where it belongs.
 ghost use mathlib.Core.Path.{_≡_};
-ghost use mathlib.Core.Bool.{Bool, true, not, _&&_, cond};
+ghost use mathlib.Core.Bool.{true, not, _&&_};
 ghost use Prim.Native.Nat.{_+_, _*_, _≤_};
 ghost use lib.ListN.{length};
 ghost use lib.Seq.{sets};
 ghost use Rattle.rules.specs.Bounded.{bit};
 ghost use Rattle.rules.specs.Recorder.{settingsGood};
 ghost use Rattle.rules.specs.Halves.{known, halfAt, halvesOf};
-ghost use Rattle.rules.specs.Events.{inEvent, three, sixSums, typeOf};
-ghost use Rattle.rules.specs.EventList.{kindNumber, ofSag, eventFrom, wordsOf, eventsOf, flat};
+ghost use Rattle.rules.specs.Events.{three, sixSums, typeOf};
+ghost use Rattle.rules.specs.EventList.{kindNumber, ofSag, wordsOf, eventsOf, flat};
 ghost use Rattle.rules.specs.Refusals.{settingsCheck, recordingCheck, andThen, listed, written};
 ghost use Rattle.rules.specs.declared.Taken.the-variants.{Accepted};
 ghost use Rattle.kinds.specs.Machine.{thresholdsOf, Marked, Few, Light, Sound};

@@ -6,7 +6,7 @@ ghost use lib.IntN.{natAbs, _-ℤ_};
 ghost use lib.ListN.{length};
 ghost use Rattle.rules.specs.Recorder.{settingsGood};
 ghost use Rattle.rules.specs.Halves.{square, known, halfAt};
-ghost use Rattle.rules.specs.Events.{twice, sixParts, sixSums, smallest, largest, numberOfFirst, typeOf};
+ghost use Rattle.rules.specs.Events.{twice, sixParts, sixSums, numberOfFirst, typeOf};
 ghost use Rattle.rules.specs.Refusals.{recordingCheck};
 ghost use Rattle.rules.specs.declared.Taken.the-variants.{Accepted};
 ghost use Rattle.halves.specs.Windows.{Low};

@@ -1,17 +1,17 @@
 -- Counts of an offered table, any numbers: what adds up, told without a sum that wraps; and two tables added. Assumes nothing.
 use Prim.Native.Nat.{ℕ, zero, suc, _+_, _-_, _*_, _≤_, _<_, min}
-use mathlib.Core.Path.{_≡_, refl, sym, ap, subst, _∙_}
-use mathlib.Core.Bool.{Bool, true, false, _&&_, _||_, cond}
+use mathlib.Core.Path.{_≡_, refl, sym, ap, _∙_}
+use mathlib.Core.Bool.{Bool, true, false, _&&_, _||_}
 use mathlib.Core.Logic.{⊎-elim}
 use mathlib.Core.List.{List, [], _∷_}
-use native.Mathlib.Nat.{zero-add, eq-or-lt-of-le, mul-le-mul}
+use native.Mathlib.Nat.{zero-add, mul-le-mul}
 use native.Mathlib.Numerals.{add-one}
 use native.Mathlib.Omega.{arith}
 use borrow.Author.Tests.{ltb-true, ltb-false, lt-ltb, le-ltb, eqb-true, eqb-false, eq-eqb, ne-eqb}
 use lib.Dec.{ltb, eqb}
 use lib.IntN.{ℤ}
-use lib.ListN.{length, getD, drop, set, replicate, getD-replicate, List·getD-eq-default}
-use lib.Seq.{drop-cons, ext-getD, getD-set-same, getD-set-other}
+use lib.ListN.{length, getD, drop, replicate, getD-replicate, List·getD-eq-default}
+use lib.Seq.{drop-cons, ext-getD}
 use Rattle.rules.specs.Bounded.{count}
 use Rattle.rules.specs.Recorder.{settingsGood, badSetting}
 use Rattle.rules.specs.Halves.{halfAt, halvesOf, full}
@@ -27,7 +27,7 @@ use Rattle.rules.specs.declared.Refusal.{Refusal}
 use Rattle.rules.specs.declared.Refusal.the-variants.{Full, Unsound}
 use Rattle.rules.specs.declared.Taken.the-variants.{Accepted, Refused}
 use Rattle.rules.specs.declared.Site.{Site as Handed}
-use Rattle.site.specs.Sites.{Mergeable, merged}
+use Rattle.site.specs.Merging.{Mergeable, merged}
 
 -- ---- three counts and a total
 

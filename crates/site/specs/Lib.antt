@@ -1,2 +1,2 @@
--- The pass that a site table takes, as definitions over the machine; proofs/ ties it to the rules.
-pub mod Sites
+-- What a table makes of another.
+pub mod Merging

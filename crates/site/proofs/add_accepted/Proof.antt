@@ -4,7 +4,6 @@ use mathlib.Core.Path.{_≡_, _∙_}
 use borrow.Author.Needs.{needs}
 use denote.Ref.{now}
 use lib.ListN.{length}
-use Prim.Native.Nat.{_-_}
 use Rattle.rules.proofs.DemandThree.{sound-parts}
 use Rattle.rules.specs.Site.{grown}
 use Rattle.site.proofs.Counts.{add-full, check-taken, add-taken, merged-grown, mergeable}

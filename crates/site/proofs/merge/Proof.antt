@@ -1,7 +1,7 @@
 -- `site::merge` meets its contract. Every sum fits, by what is asked, and the code is the definition.
 -- Assumes nothing.
 use native.Mathlib.Omega.{arith}
-use Rattle.site.specs.Sites.{merged}
+use Rattle.site.specs.Merging.{merged}
 use borrow.Author.Needs.{needs}
 use Rattle.site.proofs.merge.Statement.{statement}
 use Rattle.site.proofs.merge.Tie as tie

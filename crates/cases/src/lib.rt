@@ -1,0 +1,66 @@
+// What the programs over the known answers share: their settings, their blocks of samples, and how a refusal is written.
+// N 8, R 1,000, f 50, thresholds 90, 10, 110, hysteresis 2.
+use rules::Refusal;
+use rules::Settings;
+ghost use mathlib.Core.Path.{_≡_};
+ghost use lib.ListN.{length};
+
+pub fn settings() -> Settings {
+    Settings {
+        n: 8,
+        r: 1000,
+        f: 50,
+        sag: 90,
+        interruption: 10,
+        swell: 110,
+        hysteresis: 2,
+    }
+}
+
+// A refusal's number and its place.
+fn write_turned(number: u64, place: u64) {
+    print::text(b" refusal");
+    print::number(number);
+    print::text(b" at");
+    print::number(place);
+}
+
+pub fn write_refusal(refusal: Refusal) {
+    match refusal {
+        Refusal::Setting(i) => write_turned(1, i),
+        Refusal::Uneven => write_turned(2, 0),
+        Refusal::Short => write_turned(3, 0),
+        Refusal::Ragged => write_turned(4, 0),
+        Refusal::Long => write_turned(5, 0),
+        Refusal::Sample(i) => write_turned(6, i),
+        Refusal::Room(n) => write_turned(7, n),
+        Refusal::Full(n) => write_turned(8, n),
+        Refusal::Unsound => write_turned(9, 0),
+    }
+}
+
+// Eight blocks of four equal samples: values for channel a, and for b and c.
+pub fn blocks(a: [i32; 8], bc: [i32; 8]) -> [i32; 96]
+    ensures { λ r. ⌜ 96 ≡ length r ⌝ }
+{
+    let mut run = [0; 96];
+    let mut m: usize = 0;
+    while m < 32 {
+        let x = bc[m / 4];
+        run[3 * m] = a[m / 4];
+        run[3 * m + 1] = x;
+        run[3 * m + 2] = x;
+        m += 1;
+    }
+    run
+}
+
+// K9: one sample of the fifth block missing.
+pub fn k9() -> [i32; 96]
+    ensures { λ r. ⌜ 96 ≡ length r ⌝ }
+{
+    let values = [1000, 1000, 500, 500, 500, 500, 1000, 1000];
+    let mut run = blocks(values, values);
+    run[48] = -2147483648;
+    run
+}

@@ -1,0 +1,36 @@
+-- Two tables added, number by number.
+use Prim.Native.Nat.{ℕ, _+_, _≤_}
+use lib.ListN.{getD}
+use Rattle.rules.specs.Site.{cellsFrom}
+use Rattle.rules.specs.declared.Table.{Table}
+
+unfoldable pub merged : Table → Table → Table
+merged t u =
+    record {
+      settings = t .settings;
+      total = t .total + u .total;
+      healthy = t .healthy + u .healthy;
+      disturbed = t .disturbed + u .disturbed;
+      unknown = t .unknown + u .unknown;
+      cells = cellsFrom (λ i. getD (u .cells) i 0) (t .cells) 0;
+      unplaced = t .unplaced + u .unplaced;
+      sags = t .sags + u .sags;
+      interruptions = t .interruptions + u .interruptions;
+      swells = t .swells + u .swells;
+      stray = t .stray + u .stray;
+      shortfall = t .shortfall + u .shortfall;
+    }
+
+-- sums that fit
+pub record Mergeable (t u : Table) : Type 0 where
+  pub total-few : t .total + u .total ≤ 4000000
+  pub healthy-few : t .healthy + u .healthy ≤ 4000000
+  pub disturbed-few : t .disturbed + u .disturbed ≤ 4000000
+  pub unknown-few : t .unknown + u .unknown ≤ 4000000
+  pub cells-few : (i : ℕ) → getD (t .cells) i 0 + getD (u .cells) i 0 ≤ 4000000
+  pub unplaced-few : t .unplaced + u .unplaced ≤ 4000000
+  pub sags-few : t .sags + u .sags ≤ 4000000
+  pub interruptions-few : t .interruptions + u .interruptions ≤ 4000000
+  pub swells-few : t .swells + u .swells ≤ 4000000
+  pub stray-few : t .stray + u .stray ≤ 4000000
+  pub shortfall-low : t .shortfall + u .shortfall ≤ 15360000000000000000

@@ -1,0 +1,3 @@
+pub mod Surveys
+pub mod Gains
+pub mod Passes

@@ -1,0 +1,253 @@
+-- A turn of the survey, and its end: what each call asks, and what they make together. Assumes nothing.
+use Prim.Native.Nat.{ℕ, suc, _+_, _≤_}
+use mathlib.Core.Path.{_≡_, refl, sym, ap, _∙_}
+use mathlib.Core.Bool.{Bool, true, false, not, _&&_, _||_}
+use mathlib.Core.List.{List}
+use native.Mathlib.Nat.{zero-add}
+use native.Mathlib.Numerals.{add-one}
+use native.Mathlib.Omega.{arith}
+use lib.IntN.{ℤ}
+use lib.ListN.{replicate}
+use Rattle.rules.specs.Recorder.{settingsGood}
+use Rattle.rules.specs.Halves.{known, halfAt, halvesOf}
+use Rattle.rules.specs.Events.{starts}
+use Rattle.rules.specs.Site.{cells, inAny, isHealthy, isDisturbed, isUnknown, empty, grown}
+use Rattle.rules.specs.Refusals.{recordingCheck}
+use Rattle.rules.proofs.Bounded.{count-le}
+use Rattle.rules.proofs.Longest.{in-past, half-past}
+use Rattle.rules.proofs.Ranges.{Good, good}
+use Rattle.rules.proofs.Samples.{Accepts, accepts}
+use Rattle.rules.specs.declared.Settings.{Settings}
+use Rattle.rules.specs.declared.Half.{Half}
+use Rattle.rules.specs.declared.Kind.the-variants.{Sag, Interruption, Swell}
+use Rattle.rules.specs.declared.Table.{Table}
+use Rattle.rules.specs.declared.Taken.the-variants.{Accepted}
+use Rattle.kinds.specs.declared.Thresholds.{Thresholds}
+use Rattle.kinds.specs.declared.Level.{Level}
+use Rattle.survey.specs.declared.Track.{Track}
+use Rattle.survey.specs.declared.Classes.{Classes}
+use Rattle.survey.specs.declared.Starts.{Starts}
+use Rattle.survey.specs.declared.Landed.{Landed}
+use Rattle.survey.specs.declared.Survey.{Survey}
+use Rattle.kinds.specs.Machine.{levelOf, opens, Light}
+use Rattle.survey.specs.Pass.{trackedBy, classedBy, startedBy, landedBy, cellsBy, Landable, Surveying, trackAt, coveredAt, classesAt, startsAt, landed, landedAt, cellsAt, surveyAt, resting, startSurvey}
+use Rattle.kinds.proofs.Machine.{known-is, inside-is, opens-closed}
+use Rattle.kinds.proofs.Going.{Going}
+use Rattle.kinds.proofs.Limits.{opens-light, level-light, extreme-low}
+use Rattle.survey.proofs.Surveys.{track-next, classes-next, starts-next, lands, landing, landed-at-next}
+use Rattle.survey.proofs.Gains.{cells-next, unplaced-few, stray-few, cells-few, shortfall-low, unplaced-all, stray-all, shortfall-all, cells-all}
+
+module _ (s : Settings) (xs : List ℤ) (good-settings : settingsGood s ≡ true) (accepted : recordingCheck s xs ≡ Accepted) where
+  abbrev h : ℕ → Half
+  h = halfAt s xs
+
+  abbrev n : ℕ
+  n = halvesOf s xs
+
+  g : Good s
+  g = good s good-settings
+
+  ok : Accepts s xs
+  ok = accepts s xs accepted
+
+  -- ---- what the calls ask
+
+  pub follow-ready : (k : ℕ) → k ≤ n → Light (trackAt s h k .sag .short) × Light (levelOf s (h k) .short)
+  unfolding trackAt
+  follow-ready k l =
+      (opens-light s xs g ok Sag k (omega (arith, ok .few)), level-light s xs g ok k)
+
+  pub classes-few : (k : ℕ) → k ≤ n → (classesAt s h k .healthy ≤ 4000000) × (classesAt s h k .disturbed ≤ 4000000) × (classesAt s h k .unknown ≤ 4000000)
+  unfolding classesAt
+  classes-few k l =
+      (omega (arith, ok .few, count-le (isHealthy s h) k), omega (arith, ok .few, count-le (isDisturbed s h) k), omega (arith, ok .few, count-le (isUnknown s h) k))
+
+  pub starts-few : (k : ℕ) → k ≤ n → (startsAt s h k .sags ≤ 4000000) × (startsAt s h k .interruptions ≤ 4000000) × (startsAt s h k .swells ≤ 4000000)
+  unfolding startsAt
+  starts-few k l =
+      (omega (arith, ok .few, count-le (starts s h Sag) k), omega (arith, ok .few, count-le (starts s h Interruption) k), omega (arith, ok .few, count-le (starts s h Swell) k))
+
+  -- the test of the code says where a sag lands
+  ends-is : (k : ℕ) → (trackAt s h k .sag .inside && not (trackAt s h (suc k) .sag .inside)) ≡ lands s h n (half-past s xs) Sag k
+  unfolding trackAt
+  ends-is k = rw (inside-is s h Sag k, inside-is s h Sag (suc k))
+
+  going-at : (k : ℕ) → k ≤ n → lands s h n (half-past s xs) Sag k ≡ true → Going s h Sag k (trackAt s h k .sag)
+  unfolding trackAt
+  going-at k l y = landing s h n (half-past s xs) Sag k l y
+
+  pub landable : (k : ℕ) → k ≤ n → Landable s (landedAt s h n k) (trackAt s h k) (trackAt s h (suc k)) k (cellsAt s h n k)
+  landable k l =
+      let on : (trackAt s h k .sag .inside && not (trackAt s h (suc k) .sag .inside)) ≡ true → Going s h Sag k (trackAt s h k .sag) =
+      λ e. going-at k l (sym (ends-is k) ∙ e) in
+      record {
+        placeable =
+            record {
+              good-settings = good-settings;
+              extreme = λ e. extreme-low s xs g ok Sag k (trackAt s h k .sag) (on e);
+              began = λ e. omega (arith, on e .started);
+              high = omega (arith, ok .few);
+              few = λ i. omega (arith, ok .few, cells-few s h n (half-past s xs) k i);
+            };
+        light = follow-ready k l .0;
+        unplaced-few = omega (arith, ok .few, unplaced-few s h n (half-past s xs) k);
+        stray-few = omega (arith, ok .few, stray-few s h n (half-past s xs) k);
+        shortfall-low = shortfall-low s xs g ok k l;
+      }
+
+  -- the state after half-cycle k
+  pub survey-next : (k : ℕ) (t : Track) (c : Classes) (b : Starts) (d : Landed) → t ≡ trackAt s h (suc k) → c ≡ classesAt s h (suc k) → b ≡ startsAt s h (suc k)
+      → d ≡ landedAt s h n (suc k) → _≡_ {A = Survey} (record { track = t; classes = c; starts = b; landed = d }) (surveyAt s h n (k + 1))
+  unfolding surveyAt
+  survey-next k t c b d e f i j = rw (add-one, e, f, i, j)
+
+  -- the parts of the state
+  pub record Parts (k : ℕ) (p : Survey) : Type 0 where
+    pub track : p .track ≡ trackAt s h k
+    pub classes : p .classes ≡ classesAt s h k
+    pub starts-are : p .starts ≡ startsAt s h k
+    pub landed : p .landed ≡ landedAt s h n k
+
+  pub parts : (k : ℕ) (p : Survey) → p ≡ surveyAt s h n k → Parts k p
+  unfolding surveyAt
+  parts k p e = record { track = rw e; classes = rw e; starts-are = rw e; landed = rw e }
+
+  cells-here : (k : ℕ) → k ≤ n → cellsBy s (lands s h n (half-past s xs) Sag k) (trackAt s h k .sag) k (known (h k)) (cellsAt s h n k) ≡ cellsAt s h n (suc k)
+  unfolding trackAt
+  cells-here k l = cells-next s h n (half-past s xs) k l
+
+  -- the cells after half-cycle k
+  pub cells-after : (k : ℕ) → k ≤ n → (was is : Track) (isKnown : Bool) (cs : List ℕ) → was ≡ trackAt s h k → is ≡ trackAt s h (suc k) → isKnown ≡ known (h k)
+      → cs ≡ cellsAt s h n k → cellsBy s (was .sag .inside && not (is .sag .inside)) (was .sag) k isKnown cs ≡ cellsAt s h n (suc k)
+  cells-after k l was is isKnown cs e f i j = rw (e, f, i, j, ends-is k) (cells-here k l)
+
+  -- ---- the end
+
+  pub at-end : trackAt s h (suc n) ≡ resting
+  unfolding trackAt coveredAt
+  at-end =
+      rw (
+        half-past s xs n (omega arith),
+        opens-closed s h Sag n (in-past s h n (half-past s xs) Sag n (omega arith)),
+        in-past s h n (half-past s xs) Interruption n (omega arith),
+        in-past s h n (half-past s xs) Swell n (omega arith),
+      )
+
+  pub at-start : startSurvey ≡ surveyAt s h n 0
+  unfolding surveyAt trackAt classesAt startsAt landedAt opens coveredAt landed
+  at-start = refl
+
+  pub cells-start : replicate cells 0 ≡ cellsAt s h n 0
+  unfolding cellsAt landed
+  cells-start = refl
+
+  pub table-is : (c : Classes) (b : Starts) (d : Landed) (cs : List ℕ) (m : ℕ) → m ≡ n → c ≡ classesAt s h n → b ≡ startsAt s h n → d ≡ landedAt s h n (suc n)
+      → cs ≡ cellsAt s h n (suc n)
+      → _≡_ {A = Table} (record {
+        settings = s;
+        total = m;
+        healthy = c .healthy;
+        disturbed = c .disturbed;
+        unknown = c .unknown;
+        cells = cs;
+        unplaced = d .unplaced;
+        sags = b .sags;
+        interruptions = b .interruptions;
+        swells = b .swells;
+        stray = d .stray;
+        shortfall = d .shortfall;
+      }) (grown (empty s) xs)
+  unfolding grown classesAt startsAt
+  table-is c b d cs m e f i j q =
+      rw (e, f, i, j, q, unplaced-all s xs, stray-all s xs, shortfall-all s xs, cells-all s xs) (simp zero-add)
+
+-- ---- a turn
+
+module _ (s : Settings) (xs : List ℤ) (m : Thresholds) (halves k : ℕ) (p : Survey) (cs : List ℕ) (v : Surveying s xs m halves k p cs)
+    (l : Level) (l-is : l ≡ levelOf s (halfAt s xs k)) where
+  inside : k ≤ halvesOf s xs
+  inside = omega (arith, v .inside, v .count-is)
+
+  are : Parts s xs (v .good-settings) (v .accepted) k p
+  are = parts s xs (v .good-settings) (v .accepted) k p (v .state)
+
+  known-here : l .known ≡ known (halfAt s xs k)
+  known-here = rw l-is (known-is s (halfAt s xs k))
+
+  pub ask-follow : Light (p .track .sag .short) × Light (l .short)
+  ask-follow = rw (l-is, are .track) (follow-ready s xs (v .good-settings) (v .accepted) k inside)
+
+  pub ask-classify : (p .classes .healthy ≤ 4000000) × (p .classes .disturbed ≤ 4000000) × (p .classes .unknown ≤ 4000000)
+  ask-classify = rw (are .classes) (classes-few s xs (v .good-settings) (v .accepted) k inside)
+
+  pub ask-starts : (p .starts .sags ≤ 4000000) × (p .starts .interruptions ≤ 4000000) × (p .starts .swells ≤ 4000000)
+  ask-starts = rw (are .starts-are) (starts-few s xs (v .good-settings) (v .accepted) k inside)
+
+  module _ (is : Track) (followed : is ≡ trackedBy m k (p .track) l) where
+    next : is ≡ trackAt s (halfAt s xs) (suc k)
+    next = followed ∙ rw (v .thresholds, are .track, l-is) (track-next s (halfAt s xs) k)
+
+    any-is : (is .sag .inside || is .interruption || is .swell) ≡ inAny s (halfAt s xs) k
+    unfolding trackAt
+    any-is = rw (next, inside-is s (halfAt s xs) Sag (suc k))
+
+    pub ask-land : Landable s (p .landed) (p .track) is k cs
+    ask-land = rw (are .landed, are .track, next, v .cells-are) (landable s xs (v .good-settings) (v .accepted) k inside)
+
+    pub turn-made : (c : Classes) (b : Starts) (d : Landed) → c ≡ classedBy (p .classes) (l .known) (is .sag .inside || is .interruption || is .swell)
+        → b ≡ startedBy (p .starts) (p .track) is → d ≡ landedBy (p .landed) (p .track) is (l .known)
+        → _≡_ {A = Survey} (record { track = is; classes = c; starts = b; landed = d }) (surveyAt s (halfAt s xs) (halvesOf s xs) (k + 1))
+    turn-made c b d e f i =
+        survey-next s xs (v .good-settings) (v .accepted) k is c b d next
+        (e ∙ rw (known-here, any-is, are .classes) (classes-next s (halfAt s xs) k))
+        (f ∙ rw (are .starts-are, are .track, next) (starts-next s (halfAt s xs) k))
+        (i ∙ rw (known-here, are .landed, are .track, next) (landed-at-next s (halfAt s xs) (halvesOf s xs) (half-past s xs) k inside))
+
+    pub turn-cells : (cs′ : List ℕ) → cs′ ≡ cellsBy s (p .track .sag .inside && not (is .sag .inside)) (p .track .sag) k (l .known) cs
+        → cs′ ≡ cellsAt s (halfAt s xs) (halvesOf s xs) (k + 1)
+    turn-cells cs′ e =
+        rw add-one (e ∙ cells-after s xs (v .good-settings) (v .accepted) k inside (p .track) is (l .known) cs (are .track) next known-here (v .cells-are))
+
+-- ---- the last landing: half-cycle H, which does not exist
+
+module _ (s : Settings) (xs : List ℤ) (good-settings : settingsGood s ≡ true) (accepted : recordingCheck s xs ≡ Accepted)
+    (halves k : ℕ) (p : Survey) (cs : List ℕ) (is : Track) (count-is : halves ≡ halvesOf s xs) (done : k ≡ halvesOf s xs)
+    (state : p ≡ surveyAt s (halfAt s xs) (halvesOf s xs) k) (cells-are : cs ≡ cellsAt s (halfAt s xs) (halvesOf s xs) k) (rests : is ≡ resting) where
+  last : p ≡ surveyAt s (halfAt s xs) (halvesOf s xs) (halvesOf s xs)
+  last = state ∙ ap (surveyAt s (halfAt s xs) (halvesOf s xs)) done
+
+  last-cells : cs ≡ cellsAt s (halfAt s xs) (halvesOf s xs) (halvesOf s xs)
+  last-cells = cells-are ∙ ap (cellsAt s (halfAt s xs) (halvesOf s xs)) done
+
+  are-last : Parts s xs good-settings accepted (halvesOf s xs) p
+  are-last = parts s xs good-settings accepted (halvesOf s xs) p last
+
+  after : is ≡ trackAt s (halfAt s xs) (suc (halvesOf s xs))
+  after = rests ∙ sym (at-end s xs good-settings accepted)
+
+  not-known : false ≡ known (halfAt s xs (halvesOf s xs))
+  not-known = sym (rw (half-past s xs (halvesOf s xs) (omega arith)))
+
+  pub ask-last : Landable s (p .landed) (p .track) is halves cs
+  ask-last = rw (are-last .landed, are-last .track, after, count-is, last-cells) (landable s xs good-settings accepted (halvesOf s xs) (omega arith))
+
+  pub table-made : (d : Landed) (cs′ : List ℕ) → d ≡ landedBy (p .landed) (p .track) is false
+      → cs′ ≡ cellsBy s (p .track .sag .inside && not (is .sag .inside)) (p .track .sag) halves false cs
+      → _≡_ {A = Table} (record {
+        settings = s;
+        total = halves;
+        healthy = p .classes .healthy;
+        disturbed = p .classes .disturbed;
+        unknown = p .classes .unknown;
+        cells = cs′;
+        unplaced = d .unplaced;
+        sags = p .starts .sags;
+        interruptions = p .starts .interruptions;
+        swells = p .starts .swells;
+        stray = d .stray;
+        shortfall = d .shortfall;
+      }) (grown (empty s) xs)
+  table-made d cs′ e f =
+      table-is s xs good-settings accepted (p .classes) (p .starts) d cs′ halves count-is (are-last .classes) (are-last .starts-are)
+      (e ∙ rw (not-known, are-last .landed, are-last .track, after) (landed-at-next s (halfAt s xs) (halvesOf s xs) (half-past s xs) (halvesOf s xs) (omega arith)))
+      (f ∙ rw count-is (cells-after s xs good-settings accepted (halvesOf s xs) (omega arith) (p .track) is false cs (are-last .track) after not-known last-cells))

@@ -1,0 +1,184 @@
+-- The pass over a recording that a site table takes, as the code runs it; proofs/ ties it to the rules.
+use Prim.Native.Nat.{ℕ, zero, suc, _+_, _-_, _*_, _≤_, _<_}
+use mathlib.Core.Path.{_≡_}
+use mathlib.Core.Bool.{Bool, true, false, not, _&&_, _||_, cond}
+use mathlib.Core.List.{List}
+use lib.ListN.{getD, set, replicate}
+use lib.IntN.{ℤ}
+use lib.Dec.{eqb}
+use Rattle.rules.specs.Bounded.{before, bit, count}
+use Rattle.rules.specs.Recorder.{settingsGood}
+use Rattle.rules.specs.Refusals.{recordingCheck}
+use Rattle.rules.specs.declared.Taken.the-variants.{Accepted}
+use Rattle.rules.specs.Halves.{known, halfAt, halvesOf}
+use Rattle.rules.specs.Events.{inEvent, starts, endOf, startSeen, endSeen, shortsOf, three}
+use Rattle.rules.specs.Site.{cells, cellAt, isHealthy, isDisturbed, isUnknown, sagCell, isContained, cellsFrom}
+use Rattle.rules.specs.declared.Settings.{Settings}
+use Rattle.rules.specs.declared.Half.{Half}
+use Rattle.rules.specs.declared.Kind.{Kind}
+use Rattle.rules.specs.declared.Kind.the-variants.{Sag, Interruption, Swell}
+use Rattle.kinds.specs.Machine.{thresholdsOf, goesBy, stepBy, closed, opens, Light}
+use Rattle.kinds.specs.declared.Thresholds.{Thresholds}
+use Rattle.kinds.specs.declared.Level.{Level}
+use Rattle.kinds.specs.declared.Open.{Open}
+use Rattle.survey.specs.declared.Track.{Track}
+use Rattle.survey.specs.declared.Classes.{Classes}
+use Rattle.survey.specs.declared.Starts.{Starts}
+use Rattle.survey.specs.declared.Landed.{Landed}
+use Rattle.survey.specs.declared.Survey.{Survey}
+
+-- ---- a half-cycle
+
+unfoldable pub trackedBy : Thresholds → ℕ → Track → Level → Track
+trackedBy m k t l =
+    let sag = stepBy Sag (m .sag) (t .known) k (t .sag) l in
+    let interruption = goesBy Interruption (m .interruption) (t .interruption) l in
+    record {
+      known = l .known;
+      sag = sag;
+      interruption = interruption;
+      covered = not interruption || (t .covered && sag .inside);
+      swell = goesBy Swell (m .swell) (t .swell) l;
+    }
+
+abbrev pub classedBy : Classes → Bool → Bool → Classes
+classedBy c isKnown any =
+    record {
+      healthy = c .healthy + bit (isKnown && not any);
+      disturbed = c .disturbed + bit (isKnown && any);
+      unknown = c .unknown + bit (not isKnown);
+    }
+
+abbrev pub startedBy : Starts → Track → Track → Starts
+startedBy n was is =
+    record {
+      sags = n .sags + bit (is .sag .inside && not (was .sag .inside));
+      interruptions = n .interruptions + bit (is .interruption && not (was .interruption));
+      swells = n .swells + bit (is .swell && not (was .swell));
+    }
+
+-- what is told of a sag o that half-cycle `end` ends, and of an interruption
+abbrev pub landedBy : Landed → Track → Track → Bool → Landed
+landedBy n was is isKnown =
+    let ends = was .sag .inside && not (is .sag .inside) in
+    record {
+      unplaced = n .unplaced + bit (ends && not (was .sag .seen && isKnown));
+      stray = n .stray + bit (was .interruption && not (is .interruption) && not (was .covered));
+      shortfall = n .shortfall + cond ends (three (was .sag .short)) 0;
+    }
+
+-- the cell of a sag with both ends seen has one more
+abbrev pub cellsBy : Settings → Bool → Open → ℕ → Bool → List ℕ → List ℕ
+cellsBy s ends o end isKnown cs =
+    let c = cellAt s (o .extreme) (end - o .start) in
+    cond (ends && (o .seen && isKnown)) (set cs c (getD cs c 0 + 1)) cs
+
+-- what that asks: a cell that can be worked out, and counts that can grow
+pub record Placeable (s : Settings) (ends : Bool) (o : Open) (end : ℕ) (cs : List ℕ) : Type 0 where
+  pub good-settings : settingsGood s ≡ true
+  pub extreme : ends ≡ true → o .extreme ≤ s .n * 10000000000
+  pub began : ends ≡ true → o .start ≤ end
+  pub high : end ≤ 100000
+  pub few : (i : ℕ) → getD cs i 0 ≤ 4000000
+
+pub record Landable (s : Settings) (n : Landed) (was is : Track) (k : ℕ) (cs : List ℕ) : Type 0 where
+  pub placeable : Placeable s (was .sag .inside && not (is .sag .inside)) (was .sag) k cs
+  pub light : Light (was .sag .short)
+  pub unplaced-few : n .unplaced ≤ 4000000
+  pub stray-few : n .stray ≤ 4000000
+  pub shortfall-low : n .shortfall ≤ 3000000000000000000
+
+-- ---- the state before half-cycle k, told by the rules
+
+-- the sum of g over the events of a kind that ended before half-cycle k
+unfoldable pub landed : Settings → (ℕ → Half) → Kind → (ℕ → ℕ) → ℕ → ℕ
+landed s h kind g zero = 0
+landed s h kind g (suc k) =
+    landed s h kind g k
+    + cond (before (inEvent s h kind) k && not (inEvent s h kind k)) (g (opens s h kind k .start)) 0
+
+-- the interruption that is going on has lain in a sag so far; true where none is
+unfoldable pub coveredAt : Settings → (ℕ → Half) → ℕ → Bool
+coveredAt s h zero = true
+coveredAt s h (suc k) = not (inEvent s h Interruption k) || (coveredAt s h k && inEvent s h Sag k)
+
+unfoldable pub trackAt : Settings → (ℕ → Half) → ℕ → Track
+trackAt s h k =
+    record {
+      known = before (λ j. known (h j)) k;
+      sag = opens s h Sag k;
+      interruption = before (inEvent s h Interruption) k;
+      covered = coveredAt s h k;
+      swell = before (inEvent s h Swell) k;
+    }
+
+unfoldable pub classesAt : Settings → (ℕ → Half) → ℕ → Classes
+classesAt s h k =
+    record {
+      healthy = count (isHealthy s h) k;
+      disturbed = count (isDisturbed s h) k;
+      unknown = count (isUnknown s h) k;
+    }
+
+unfoldable pub startsAt : Settings → (ℕ → Half) → ℕ → Starts
+startsAt s h k =
+    record {
+      sags = count (starts s h Sag) k;
+      interruptions = count (starts s h Interruption) k;
+      swells = count (starts s h Swell) k;
+    }
+
+-- of the sag that starts at a: both ends seen; its shortfall. Of the interruption that starts at a: not contained in one sag
+abbrev pub seenBoth : Settings → (ℕ → Half) → ℕ → ℕ → Bool
+seenBoth s h n a = startSeen h a && endSeen h (endOf s h n Sag a)
+
+abbrev pub shortfallFrom : Settings → (ℕ → Half) → ℕ → ℕ → ℕ
+shortfallFrom s h n a = three (shortsOf s h a (endOf s h n Sag a))
+
+abbrev pub strayFrom : Settings → (ℕ → Half) → ℕ → ℕ → Bool
+strayFrom s h n a = not (isContained s h n a (endOf s h n Interruption a))
+
+unfoldable pub landedAt : Settings → (ℕ → Half) → ℕ → ℕ → Landed
+landedAt s h n k =
+    record {
+      unplaced = landed s h Sag (λ a. bit (not (seenBoth s h n a))) k;
+      stray = landed s h Interruption (λ a. bit (strayFrom s h n a)) k;
+      shortfall = landed s h Sag (shortfallFrom s h n) k;
+    }
+
+unfoldable pub cellsAt : Settings → (ℕ → Half) → ℕ → ℕ → List ℕ
+cellsAt s h n k = cellsFrom (λ i. landed s h Sag (λ a. bit (seenBoth s h n a && eqb (sagCell s h n a) i)) k) (replicate cells 0) 0
+
+unfoldable pub surveyAt : Settings → (ℕ → Half) → ℕ → ℕ → Survey
+surveyAt s h n k =
+    record {
+      track = trackAt s h k;
+      classes = classesAt s h k;
+      starts = startsAt s h k;
+      landed = landedAt s h n k;
+    }
+
+-- nothing goes on, and nothing is counted
+abbrev pub resting : Track
+resting = record { known = false; sag = closed; interruption = false; covered = true; swell = false }
+
+abbrev pub startSurvey : Survey
+startSurvey =
+    record {
+      track = resting;
+      classes = record { healthy = 0; disturbed = 0; unknown = 0 };
+      starts = record { sags = 0; interruptions = 0; swells = 0 };
+      landed = record { unplaced = 0; stray = 0; shortfall = 0 };
+    }
+
+-- what a turn asks
+pub record Surveying (s : Settings) (xs : List ℤ) (m : Thresholds) (halves k : ℕ) (p : Survey) (cs : List ℕ) : Type 0 where
+  pub good-settings : settingsGood s ≡ true
+  pub accepted : recordingCheck s xs ≡ Accepted
+  pub count-is : halves ≡ halvesOf s xs
+  pub thresholds : m ≡ thresholdsOf s
+  pub inside : k < halves
+  pub state : p ≡ surveyAt s (halfAt s xs) (halvesOf s xs) k
+  pub cells-are : cs ≡ cellsAt s (halfAt s xs) (halvesOf s xs) k
+
+-- ---- two tables

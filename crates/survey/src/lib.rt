@@ -1,0 +1,269 @@
+// The survey of a recording: one pass over its half-cycles that counts all that a site table holds.
+ghost use mathlib.Core.Path.{_≡_};
+ghost use mathlib.Core.Bool.{true, false, not, _&&_, cond};
+ghost use Prim.Native.Nat.{_+_, _≤_};
+ghost use Rattle.rules.specs.Bounded.{bit};
+ghost use Rattle.rules.specs.Recorder.{settingsGood};
+ghost use Rattle.rules.specs.Halves.{halfAt, halvesOf};
+ghost use Rattle.rules.specs.Events.{three};
+ghost use Rattle.rules.specs.Site.{total, empty, grown};
+ghost use Rattle.rules.specs.Refusals.{recordingCheck};
+ghost use Rattle.rules.specs.declared.Taken.the-variants.{Accepted};
+ghost use Rattle.kinds.specs.Machine.{Light};
+ghost use Rattle.survey.specs.Pass.{trackedBy, classedBy, startedBy, landedBy, cellsBy, Placeable, Landable, Surveying, surveyAt, cellsAt, resting, startSurvey};
+use checks::count_halves;
+use halves::half_at;
+use kinds::Level;
+use kinds::Open;
+use kinds::Thresholds;
+use kinds::goes_on;
+use kinds::level_at;
+use kinds::none;
+use kinds::step;
+use kinds::thresholds_of;
+use rules::Kind;
+use rules::Settings;
+use rules::Sums;
+use rules::Table;
+use score::cell_at;
+
+// What goes on before a half-cycle: whether the one before is known, the sag, whether an interruption or a swell is, and
+// whether the interruption has lain in a sag so far.
+pub struct Track {
+    pub known: bool,
+    pub sag: Open,
+    pub interruption: bool,
+    pub covered: bool,
+    pub swell: bool,
+}
+
+// Half-cycles by their class.
+pub struct Classes {
+    pub healthy: u64,
+    pub disturbed: u64,
+    pub unknown: u64,
+}
+
+// Events that have started, by kind.
+pub struct Starts {
+    pub sags: u64,
+    pub interruptions: u64,
+    pub swells: u64,
+}
+
+// What is told when an event ends: sags that go in no cell, stray interruptions, shortfall.
+pub struct Landed {
+    pub unplaced: u64,
+    pub stray: u64,
+    pub shortfall: u64,
+}
+
+pub struct Survey {
+    pub track: Track,
+    pub classes: Classes,
+    pub starts: Starts,
+    pub landed: Landed,
+}
+
+// One more where it holds.
+fn bump(n: u64, yes: bool) -> u64
+    requires { ⌜ n ≤ 4000000 ⌝ }
+    ensures { λ r. ⌜ r ≡ n + bit yes ⌝ }
+{
+    if yes {
+        return n + 1;
+    }
+    n
+}
+
+// What goes on after half-cycle k.
+fn follow(m: Thresholds, k: u64, t: Track, l: Level) -> Track
+    requires { ⌜ Light (t .sag .short) × Light (l .short) ⌝ }
+    ensures { λ r. ⌜ r ≡ trackedBy m k t l ⌝ }
+{
+    let was = t.sag;
+    let sag = step(Kind::Sag, m.sag, t.known, k, was, l);
+    let interruption = goes_on(Kind::Interruption, m.interruption, t.interruption, l);
+    let swell = goes_on(Kind::Swell, m.swell, t.swell, l);
+    Track {
+        known: l.known,
+        sag,
+        interruption,
+        covered: !interruption | (t.covered & sag.inside),
+        swell,
+    }
+}
+
+// The half-cycle's class counted: `any` says whether it is in an event.
+fn classify(c: Classes, known: bool, any: bool) -> Classes
+    requires { ⌜ (c .healthy ≤ 4000000) × (c .disturbed ≤ 4000000) × (c .unknown ≤ 4000000) ⌝ }
+    ensures { λ r. ⌜ r ≡ classedBy c known any ⌝ }
+{
+    Classes {
+        healthy: bump(c.healthy, known & !any),
+        disturbed: bump(c.disturbed, known & any),
+        unknown: bump(c.unknown, !known),
+    }
+}
+
+// The events that start counted.
+fn count_starts(n: Starts, was: Track, is: Track) -> Starts
+    requires { ⌜ (n .sags ≤ 4000000) × (n .interruptions ≤ 4000000) × (n .swells ≤ 4000000) ⌝ }
+    ensures { λ r. ⌜ r ≡ startedBy n was is ⌝ }
+{
+    let before = was.sag;
+    let sag = is.sag;
+    Starts {
+        sags: bump(n.sags, sag.inside & !before.inside),
+        interruptions: bump(n.interruptions, is.interruption & !was.interruption),
+        swells: bump(n.swells, is.swell & !was.swell),
+    }
+}
+
+// A sag with both ends seen that half-cycle `end` ends: its cell has one more.
+fn place(s: Settings, ends: bool, o: Open, end: u64, known: bool, cells: &mut [u64; 40])
+    requires { ⌜ Placeable s ends o end (now cells) ⌝ }
+    ensures { λ r. ⌜ now (cells .exit) ≡ cellsBy s ends o end known (now (cells .entry)) ⌝ }
+{
+    if ends & (o.seen & known) {
+        let c = cell_at(s, o.extreme, end - o.start) as usize;
+        cells[c] = cells[c] + 1;
+    }
+}
+
+// What a sag's end adds to the shortfall.
+fn shortfall_by(ends: bool, v: Sums) -> u64
+    requires { ⌜ Light v ⌝ }
+    ensures { λ r. ⌜ (r ≡ cond ends (three v) 0) × (r ≤ 3000000000000000000) ⌝ }
+{
+    if ends {
+        return v.a + v.b + v.c;
+    }
+    0
+}
+
+// What half-cycle k, known or not, ends.
+fn land(
+    s: Settings,
+    n: Landed,
+    was: Track,
+    is: Track,
+    k: u64,
+    known: bool,
+    cells: &mut [u64; 40],
+) -> Landed
+    requires { ⌜ Landable s n was is k (now cells) ⌝ }
+    ensures { λ r. ⌜ r ≡ landedBy n was is known ⌝ }
+    ensures { λ r. ⌜ now (cells .exit) ≡ cellsBy s (was .sag .inside && not (is .sag .inside)) (was .sag) k known (now (cells .entry)) ⌝ }
+{
+    let o = was.sag;
+    let next = is.sag;
+    let short = o.short;
+    let ends = o.inside & !next.inside;
+    place(s, ends, o, k, known, cells);
+    Landed {
+        unplaced: bump(n.unplaced, ends & !(o.seen & known)),
+        stray: bump(n.stray, was.interruption & !is.interruption & !was.covered),
+        shortfall: n.shortfall + shortfall_by(ends, short),
+    }
+}
+
+// Half-cycle k, its sums computed once for all kinds and all counts.
+fn survey_turn(
+    s: Settings,
+    m: Thresholds,
+    halves: u64,
+    samples: &[i32],
+    p: Survey,
+    k: u64,
+    cells: &mut [u64; 40],
+) -> Survey
+    requires { ⌜ Surveying s (now samples) m halves k p (now cells) ⌝ }
+    ensures { λ r. ⌜ r ≡ surveyAt s (halfAt s (now (samples .entry))) (halvesOf s (now (samples .entry))) (k + 1) ⌝ }
+    ensures { λ r. ⌜ now (cells .exit) ≡ cellsAt s (halfAt s (now (samples .entry))) (halvesOf s (now (samples .entry))) (k + 1) ⌝ }
+{
+    let marks = m.sag;
+    let l = level_at(m.full, marks.from, half_at(s, halves, samples, k));
+    let was = p.track;
+    let is = follow(m, k, was, l);
+    let sag = is.sag;
+    let any = sag.inside | is.interruption | is.swell;
+    let classes = classify(p.classes, l.known, any);
+    let starts = count_starts(p.starts, was, is);
+    let landed = land(s, p.landed, was, is, k, l.known, cells);
+    Survey {
+        track: is,
+        classes,
+        starts,
+        landed,
+    }
+}
+
+// Nothing goes on: before half-cycle 0, and after the last.
+fn at_rest() -> Track
+    ensures { λ r. ⌜ r ≡ resting ⌝ }
+{
+    Track {
+        known: false,
+        sag: none(),
+        interruption: false,
+        covered: true,
+        swell: false,
+    }
+}
+
+fn start_survey() -> Survey
+    ensures { λ r. ⌜ r ≡ startSurvey ⌝ }
+{
+    Survey {
+        track: at_rest(),
+        classes: Classes {
+            healthy: 0,
+            disturbed: 0,
+            unknown: 0,
+        },
+        starts: Starts {
+            sags: 0,
+            interruptions: 0,
+            swells: 0,
+        },
+        landed: Landed {
+            unplaced: 0,
+            stray: 0,
+            shortfall: 0,
+        },
+    }
+}
+
+// The table of one accepted recording. Half-cycle H, which does not exist, ends what is still going on.
+pub fn table_of(s: Settings, samples: &[i32]) -> Table
+    requires { ⌜ (settingsGood s ≡ true) × (recordingCheck s (now samples) ≡ Accepted) ⌝ }
+    ensures { λ r. ⌜ r ≡ grown (empty s) (now (samples .entry)) ⌝ }
+{
+    let halves = count_halves(s, samples);
+    let m = thresholds_of(s);
+    let mut cells: [u64; 40] = [0; 40];
+    let mut p = start_survey();
+    let mut k: u64 = 0;
+    while k < halves {
+        p = survey_turn(s, m, halves, samples, p, k, &mut cells);
+        k += 1;
+    }
+    let landed = land(s, p.landed, p.track, at_rest(), halves, false, &mut cells);
+    let classes = p.classes;
+    let starts = p.starts;
+    Table {
+        settings: s,
+        total: halves,
+        healthy: classes.healthy,
+        disturbed: classes.disturbed,
+        unknown: classes.unknown,
+        cells,
+        unplaced: landed.unplaced,
+        sags: starts.sags,
+        interruptions: starts.interruptions,
+        swells: starts.swells,
+        stray: landed.stray,
+        shortfall: landed.shortfall,
+    }
+}
