@@ -1,3 +1,2 @@
 -- The boundary's laws.
 pub mod Reasons
-pub mod Tables

@@ -5,10 +5,10 @@ use mathlib.Core.List.{List, _++_}
 use native.Mathlib.Omega.{arith}
 use lib.ListN.{length, replicate}
 use lib.Seq.{paste, take-all}
-use Rattle.burrcradle.specs.Words.{headOf, tailOf, tableWords}
+use Rattle.words.specs.Words.{headOf, tailOf, tableWords}
 use borrow.Author.Needs.{needs}
-use Rattle.burrcradle.proofs.words_of.Statement.{statement}
-use Rattle.burrcradle.proofs.words_of.Tie as tie
+use Rattle.words.proofs.words_of.Statement.{statement}
+use Rattle.words.proofs.words_of.Tie as tie
 
 forty : (c : tie.Start) → length (c .args .t .cells) ≡ 40
 forty c = search needs

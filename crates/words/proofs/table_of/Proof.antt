@@ -5,10 +5,10 @@ use mathlib.Core.List.{List, append-nil}
 use native.Mathlib.Omega.{arith}
 use lib.ListN.{length, take, drop, replicate, length-take, length-drop}
 use lib.Seq.{paste, take-all}
-use Rattle.burrcradle.specs.Words.{tableFrom}
+use Rattle.words.specs.Words.{tableFrom}
 use borrow.Author.Needs.{needs}
-use Rattle.burrcradle.proofs.table_of.Statement.{statement}
-use Rattle.burrcradle.proofs.table_of.Tie as tie
+use Rattle.words.proofs.table_of.Statement.{statement}
+use Rattle.words.proofs.table_of.Tie as tie
 
 -- a run of forty that is filled from the front
 cells-read : (w : List ℕ) → length w ≡ 57 → let part = take 40 (drop 11 w) in paste (replicate 40 0) 0 part (length part) ≡ part

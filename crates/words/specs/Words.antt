@@ -5,7 +5,7 @@ use mathlib.Core.List.{List, [], _∷_, _++_}
 use lib.ListN.{getD, take, drop}
 use Rattle.rules.specs.Site.{cells}
 use Rattle.rules.specs.declared.Table.{Table}
-use Rattle.burrcradle.specs.Numbers.{settingsFrom}
+use Rattle.words.specs.Numbers.{settingsFrom}
 
 -- what stands before the cells, and after them
 abbrev pub headOf : Table → List ℕ

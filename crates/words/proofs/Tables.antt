@@ -12,7 +12,7 @@ use Rattle.rules.specs.declared.Settings.{Settings}
 use Rattle.rules.specs.declared.Table.{Table}
 use Rattle.rules.specs.declared.Refusal.{Refusal}
 use Rattle.rules.specs.declared.Taken.the-variants.{Refused}
-use Rattle.burrcradle.specs.Words.{tailOf, tableWords, tableFrom}
+use Rattle.words.specs.Words.{tailOf, tableWords, tableFrom}
 
 -- n numbers one by one, from the i-th on
 abbrev read : List ℕ → ℕ → ℕ → List ℕ
