@@ -57,9 +57,9 @@ pub fn add_each(sum: &mut [u64], more: &[u64])
     requires { ⌜ (length (now sum) ≡ length (now more)) × ((i : ℕ) → getD (now sum) i 0 + getD (now more) i 0 < 2 ^ 64) ⌝ }
     ensures { λ r. ⌜ now (sum .exit) ≡ plus (now (sum .entry)) (now (more .entry)) ⌝ }
 {
-    let mut i: usize = 0;
-    while i < more.len() {
-        sum[i] = sum[i] + more[i];
-        i += 1;
+    let mut k: usize = 0;
+    while k < more.len() {
+        sum[k] = sum[k] + more[k];
+        k += 1;
     }
 }

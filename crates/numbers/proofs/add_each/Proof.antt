@@ -1,4 +1,4 @@
--- The first `i` numbers are added already, the others are as they were. The measure is what is left of them. Assumes nothing.
+-- The first `k` numbers are added already, the others are as they were. The measure is what is left of them. Assumes nothing.
 use Prim.Native.Nat.{_-_, _≤_}
 use mathlib.Core.Path.{_≡_, refl, _∙_}
 use native.Mathlib.Omega.{arith}
@@ -12,10 +12,10 @@ use Rattle.numbers.proofs.add_each.Statement.{statement}
 use Rattle.numbers.proofs.add_each.Tie as tie
 
 abbrev Inv-loop : tie.InvT-loop
-Inv-loop sum₀ more i₀ sum i = (i ≤ length more) × (length sum ≡ length sum₀) × (sum ≡ paste sum₀ 0 (plus sum₀ more) i)
+Inv-loop sum₀ more k₀ sum k = (k ≤ length more) × (length sum ≡ length sum₀) × (sum ≡ paste sum₀ 0 (plus sum₀ more) k)
 
 abbrev μ-loop : tie.MeasureT-loop
-μ-loop sum₀ more i₀ sum i = length more - i
+μ-loop sum₀ more k₀ sum k = length more - k
 
 loop-holds : tie.Need-loop-holds Inv-loop μ-loop
 loop-holds c = (omega arith, refl, paste-zero (now (c .args .sum)) 0 (plus (now (c .args .sum)) (now (c .args .more))))
@@ -38,9 +38,9 @@ add-sum c =
     let a = c .before .before .before .before in
     let d = now (a .args .sum) in
     let m = now (a .args .more) in
-    let old : getD (l .sum) (l .i) 0 ≡ getD d (l .i) 0 =
-    rw (l .inv .2) (rest-at d (plus d m) (l .i) (omega arith) (omega (arith, plus-length d m (a .pre .0)))) in
-    record { fits = omega (arith, old, a .pre .1 (l .i)) }
+    let old : getD (l .sum) (l .k) 0 ≡ getD d (l .k) 0 =
+    rw (l .inv .2) (rest-at d (plus d m) (l .k) (omega arith) (omega (arith, plus-length d m (a .pre .0)))) in
+    record { fits = omega (arith, old, a .pre .1 (l .k)) }
 
 mul-sum-3 : tie.Need-mul-sum-3 Inv-loop μ-loop
 mul-sum-3 c = search needs
@@ -48,8 +48,8 @@ mul-sum-3 c = search needs
 slice-write-sum : tie.Need-slice-write-sum Inv-loop μ-loop
 slice-write-sum c = search needs
 
-add-i : tie.Need-add-i Inv-loop μ-loop
-add-i c = search needs
+add-k : tie.Need-add-k Inv-loop μ-loop
+add-k c = search needs
 
 loop-less : tie.Need-loop-less Inv-loop μ-loop
 loop-less c = search needs
@@ -60,7 +60,7 @@ loop-again c =
     let a = c .before .before .before .before in (
       omega arith,
       simp length-set (l .inv .1),
-      added-next (now (a .args .sum)) (now (a .args .more)) (a .pre .0) (l .i) (l .sum) (omega arith) (l .inv .2),
+      added-next (now (a .args .sum)) (now (a .args .more)) (a .pre .0) (l .k) (l .sum) (omega arith) (l .inv .2),
     )
 
 same-length : tie.Need-same-length Inv-loop μ-loop
@@ -70,7 +70,7 @@ returns : tie.Need-returns Inv-loop μ-loop
 returns c =
     let l = c .before .loop in
     let a = c .before .before in
-    l .inv .2 ∙ added-all (now (a .args .sum)) (now (a .args .more)) (a .pre .0) (l .i) (omega arith)
+    l .inv .2 ∙ added-all (now (a .args .sum)) (now (a .args .more)) (a .pre .0) (l .k) (omega arith)
 
 pub add-each-spec : {M : Type 1} → statement M
 add-each-spec =
@@ -86,7 +86,7 @@ add-each-spec =
     add-sum
     mul-sum-3
     slice-write-sum
-    add-i
+    add-k
     loop-less
     loop-again
     same-length
