@@ -18,25 +18,11 @@ pub fn settings() -> Settings {
 }
 
 // A refusal's number and its place.
-fn write_turned(number: u64, place: u64) {
-    print::text(b" refusal");
-    print::number(number);
-    print::text(b" at");
-    print::number(place);
-}
-
 pub fn write_refusal(refusal: Refusal) {
-    match refusal {
-        Refusal::Setting(i) => write_turned(1, i),
-        Refusal::Uneven => write_turned(2, 0),
-        Refusal::Short => write_turned(3, 0),
-        Refusal::Ragged => write_turned(4, 0),
-        Refusal::Long => write_turned(5, 0),
-        Refusal::Sample(i) => write_turned(6, i),
-        Refusal::Room(n) => write_turned(7, n),
-        Refusal::Full(n) => write_turned(8, n),
-        Refusal::Unsound => write_turned(9, 0),
-    }
+    print::text(b" refusal");
+    print::number(words::number_of(refusal));
+    print::text(b" at");
+    print::number(words::place_in(refusal));
 }
 
 // Eight blocks of four equal samples: values for channel a, and for b and c.
