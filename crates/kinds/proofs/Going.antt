@@ -1,6 +1,6 @@
 -- The event that is going on before half-cycle k: where it started, all that it has met so far, and what it comes to when k ends
 -- it. Assumes nothing.
-use Prim.Native.Nat.{ℕ, zero, suc, _+_, _-_, _*_, _≤_, _<_, min, max}
+use Prim.Native.Nat.{ℕ, zero, suc, _-_, _≤_, _<_, min, max}
 use mathlib.Core.Path.{_≡_, refl, sym, subst, _∙_}
 use mathlib.Core.Bool.{true, false, not, cond, false≢true}
 use mathlib.Core.Logic.{⊎-elim}
@@ -10,10 +10,10 @@ use native.Mathlib.Omega.{arith}
 use borrow.Author.Tests.{ltb-true, ltb-false, eqb-true, eqb-false, eq-eqb, ne-eqb, lt-ltb, le-ltb}
 use lib.Dec.{ltb, eqb}
 use lib.IntN.{ℤ}
-use Rattle.rules.specs.Bounded.{before, bit}
+use Rattle.rules.specs.Bounded.{before}
 use Rattle.rules.specs.Halves.{known, halfAt, halvesOf}
-use Rattle.rules.specs.Events.{inEvent, starts, endOf, startSeen, seenOf, level, worse, worst, extremeOf, earliest, retainedOf, shorts, shortsOf, three, sixSums, typeOf}
-use Rattle.rules.specs.EventList.{kindNumber, ofSag, eventFrom}
+use Rattle.rules.specs.Events.{inEvent, starts, endOf, startSeen, seenOf, level, worse, worst, extremeOf, earliest, shorts, shortsOf}
+use Rattle.rules.specs.EventList.{eventFrom}
 use Rattle.rules.proofs.Booleans.{cases}
 use Rattle.rules.proofs.Choices.{of-cond}
 use Rattle.rules.proofs.Runs.{first-is, first-ends}
@@ -24,7 +24,7 @@ use Rattle.rules.specs.declared.Kind.{Kind}
 use Rattle.rules.specs.declared.Kind.the-variants.{Sag, Interruption, Swell}
 use Rattle.kinds.specs.declared.Level.{Level}
 use Rattle.kinds.specs.declared.Open.{Open}
-use Rattle.kinds.specs.Machine.{levelOf, peakOf, addSums, lasting, launched, opens}
+use Rattle.kinds.specs.Machine.{levelOf, peakOf, addSums, lasting, launched, opens, finishedBy}
 use Rattle.kinds.proofs.Machine.{peak-is, short-is, inside-is, opens-lasts, opens-launches}
 
 -- ---- the worst of a range, a turn at a time
@@ -179,18 +179,8 @@ module _ (s : Settings) (h : ℕ → Half) (kind : Kind) where
 
 -- what the event comes to
 module _ (s : Settings) (xs : List ℤ) (kind : Kind) (k : ℕ) (o : Open) (g : Going s (halfAt s xs) kind k o) (u : k ≤ halvesOf s xs) (out : inEvent s (halfAt s xs) kind k ≡ false) where
-  pub finished : eventFrom s xs kind (o .start)
-      ≡ record {
-        kind = kindNumber kind;
-        start = o .start;
-        end = k;
-        seen = bit (o .seen) + 2 * bit (known (halfAt s xs k));
-        extreme = o .extreme;
-        retained = retainedOf s (o .extreme);
-        shortfall = ofSag kind (three (o .short));
-        class = ofSag kind (typeOf (sixSums s xs (o .at)));
-      }
-  unfolding eventFrom seenOf
+  pub finished : eventFrom s xs kind (o .start) ≡ finishedBy s xs kind o k (known (halfAt s xs k))
+  unfolding eventFrom seenOf finishedBy
   finished =
       rw (
         ends-here s (halfAt s xs) kind (halvesOf s xs) k o g u out,

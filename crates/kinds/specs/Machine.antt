@@ -5,14 +5,16 @@ use mathlib.Core.Bool.{Bool, true, false, _&&_, _||_, cond}
 use mathlib.Core.List.{List}
 use lib.Dec.{ltb, eqb}
 use lib.IntN.{ℤ}
-use Rattle.rules.specs.Bounded.{before}
+use Rattle.rules.specs.Bounded.{before, bit}
 use Rattle.rules.specs.Halves.{known, halfAt, full}
-use Rattle.rules.specs.Events.{least, greatest, worse}
+use Rattle.rules.specs.Events.{least, greatest, worse, retainedOf, three, sixSums, typeOf}
+use Rattle.rules.specs.EventList.{kindNumber, ofSag}
 use Rattle.rules.specs.declared.Settings.{Settings}
 use Rattle.rules.specs.declared.Sums.{Sums}
 use Rattle.rules.specs.declared.Half.{Half}
 use Rattle.rules.specs.declared.Half.the-variants.{Unknown, Known}
 use Rattle.rules.specs.declared.Kind.{Kind}
+use Rattle.rules.specs.declared.Event.{Event}
 use Rattle.rules.specs.declared.Kind.the-variants.{Sag, Interruption, Swell}
 use Rattle.kinds.specs.declared.Marks.{Marks}
 use Rattle.kinds.specs.declared.Thresholds.{Thresholds}
@@ -128,3 +130,20 @@ pub record Sound (s : Settings) (xs : List ℤ) (o : Open) : Type 0 where
   pub light : Light (o .short)
   pub extreme : o .extreme ≤ s .n * 10000000000
   pub at : known (halfAt s xs (o .at)) ≡ true
+
+abbrev pub seenNumber : Bool → Bool → ℕ
+seenNumber start end = bit start + 2 * bit end
+
+-- the event that half-cycle `end` ends
+unfoldable pub finishedBy : Settings → List ℤ → Kind → Open → ℕ → Bool → Event
+finishedBy s xs kind o end isKnown =
+    record {
+      kind = kindNumber kind;
+      start = o .start;
+      end = end;
+      seen = seenNumber (o .seen) isKnown;
+      extreme = o .extreme;
+      retained = retainedOf s (o .extreme);
+      shortfall = ofSag kind (three (o .short));
+      class = ofSag kind (typeOf (sixSums s xs (o .at)));
+    }

@@ -24,8 +24,8 @@ use Rattle.kinds.specs.declared.Level.{Level}
 use Rattle.kinds.specs.declared.Open.{Open}
 use Rattle.list.specs.declared.Pending.{Pending}
 use Rattle.list.specs.declared.Visited.{Visited}
-use Rattle.kinds.specs.Machine.{stepBy, opens, Light, Sound}
-use Rattle.list.specs.Listing.{finishedBy, Visiting, visited, closes}
+use Rattle.kinds.specs.Machine.{stepBy, opens, Light, Sound, finishedBy}
+use Rattle.list.specs.Listing.{Visiting, visited, closes}
 use Rattle.kinds.proofs.Machine.{known-is, inside-of}
 use Rattle.kinds.proofs.Going.{going, finished}
 use Rattle.kinds.proofs.Limits.{opens-light, level-light, sound}
@@ -73,7 +73,6 @@ module _ {s : Settings} {xs : List ℤ} {kind : Kind} {m : Marks} {seen : Bool} 
       not-in = sym is-in ∙ not-true (is .inside) (both (p .event .inside) (not (is .inside)) t .1)
 
       event-is : (e : Event) → e ≡ finishedBy s xs kind (p .event) k (l .known) → e ≡ eventFrom s xs kind (p .event .start)
-      unfolding finishedBy
       event-is e f =
           let o = v .ready .state in
           let i : opens s h kind k .inside ≡ true = ap (λ (o : Open). o .inside) (sym o) ∙ was-inside in

@@ -9,20 +9,18 @@ use lib.IntN.{ℤ}
 use Rattle.rules.specs.Bounded.{before, bit, count}
 use Rattle.rules.specs.Recorder.{settingsGood}
 use Rattle.rules.specs.Halves.{known, halfAt, halvesOf}
-use Rattle.rules.specs.Events.{inEvent, starts, retainedOf, three, sixSums, typeOf}
-use Rattle.rules.specs.EventList.{kindNumber, ofSag, eventFrom, wordsOf}
+use Rattle.rules.specs.Events.{inEvent, starts}
+use Rattle.rules.specs.EventList.{eventFrom, wordsOf}
 use Rattle.rules.specs.Refusals.{recordingCheck}
 use Rattle.rules.specs.declared.Settings.{Settings}
 use Rattle.rules.specs.declared.Half.{Half}
 use Rattle.rules.specs.declared.Kind.{Kind}
 use Rattle.rules.specs.declared.Kind.the-variants.{Sag, Interruption, Swell}
-use Rattle.rules.specs.declared.Event.{Event}
 use Rattle.rules.specs.declared.Taken.the-variants.{Accepted}
 use Rattle.kinds.specs.Machine.{marksOf, levelBy, levelOf, goesBy, closed, opens}
 use Rattle.kinds.specs.declared.Marks.{Marks}
 use Rattle.kinds.specs.declared.Thresholds.{Thresholds}
 use Rattle.kinds.specs.declared.Level.{Level}
-use Rattle.kinds.specs.declared.Open.{Open}
 use Rattle.list.specs.declared.Tally.{Tally}
 use Rattle.list.specs.declared.Pending.{Pending}
 use Rattle.list.specs.declared.Visited.{Visited}
@@ -56,23 +54,6 @@ tallyOf s h k =
     }
 
 -- ---- the writing pass
-
-abbrev pub seenNumber : Bool → Bool → ℕ
-seenNumber start end = bit start + 2 * bit end
-
--- the event that half-cycle `end` ends
-unfoldable pub finishedBy : Settings → List ℤ → Kind → Open → ℕ → Bool → Event
-finishedBy s xs kind o end isKnown =
-    record {
-      kind = kindNumber kind;
-      start = o .start;
-      end = end;
-      seen = seenNumber (o .seen) isKnown;
-      extreme = o .extreme;
-      retained = retainedOf s (o .extreme);
-      shortfall = ofSag kind (three (o .short));
-      class = ofSag kind (typeOf (sixSums s xs (o .at)));
-    }
 
 -- the machine of a kind stands before half-cycle k, and a slot that waits lies within the room
 pub record Ready (s : Settings) (xs : List ℤ) (kind : Kind) (k : ℕ) (p : Pending) (room : ℕ) : Type 0 where

@@ -1,5 +1,5 @@
 -- What the callees hand back makes the event. Assumes nothing.
-use Rattle.list.specs.Listing.{finishedBy}
+use Rattle.kinds.specs.Machine.{finishedBy}
 use borrow.Author.Needs.{needs}
 use Rattle.list.proofs.finish.Statement.{statement}
 use Rattle.list.proofs.finish.Tie as tie
