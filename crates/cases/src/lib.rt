@@ -4,8 +4,12 @@ use rules::Refusal;
 use rules::Settings;
 ghost use mathlib.Core.Path.{_≡_};
 ghost use lib.ListN.{length};
+ghost use Rattle.rules.specs.Known.{settings};
 
-pub fn settings() -> Settings {
+// The settings of the known answers.
+pub fn settings() -> Settings
+    ensures { λ r. ⌜ r ≡ settings ⌝ }
+{
     Settings {
         n: 8,
         r: 1000,

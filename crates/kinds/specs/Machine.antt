@@ -131,6 +131,7 @@ pub record Sound (s : Settings) (xs : List ℤ) (o : Open) : Type 0 where
   pub extreme : o .extreme ≤ s .n * 10000000000
   pub at : known (halfAt s xs (o .at)) ≡ true
 
+-- 1 for the start plus 2 for the end
 abbrev pub seenNumber : Bool → Bool → ℕ
 seenNumber start end = bit start + 2 * bit end
 
