@@ -5,7 +5,6 @@ use mathlib.Core.Bool.{Bool, true, false, cond}
 use mathlib.Core.List.{List, [], _∷_}
 use native.Mathlib.Omega.{arith}
 use native.Mathlib.Nat.{mul-le-mul}
-use Rattle.numbers.proofs.Runs.{plus-length}
 use lib.IntN.{ℤ, natAbs, _-ℤ_}
 use lib.ListN.{length, getD, drop, length-drop, drop-of-length-le}
 use lib.Seq.{drop-cons}
@@ -102,10 +101,6 @@ pub six-low : (w : List ℤ) → Low w → (n : ℕ) → n ≤ samplesOf w → S
 six-low w h n l =
     below-low _ 160000000000 n
     (λ i m. parts-low (sampleAt w 0 i) (sampleAt w 1 i) (sampleAt w 2 i) (h (3 * i + 0) (omega arith)) (h (3 * i + 1) (omega arith)) (h (3 * i + 2) (omega arith)))
-
-pub six-length : (w : List ℤ) (n : ℕ) → length (sixUpTo w n) ≡ 6
-six-length w zero = refl
-six-length w (suc n) = plus-length (sixUpTo w n) _ (six-length w n)
 
 -- of a window of at most 512 samples
 pub six-in-low : (w : List ℤ) → Low w → length w ≤ 1536 → Sixes 100000000000000 (sixIn w)

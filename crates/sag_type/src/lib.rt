@@ -6,7 +6,7 @@ ghost use lib.IntN.{natAbs, _-ℤ_};
 ghost use lib.ListN.{length};
 ghost use Rattle.rules.specs.Recorder.{settingsGood};
 ghost use Rattle.rules.specs.Halves.{square, known, halfAt};
-ghost use Rattle.rules.specs.Events.{twice, sixParts, sixSums, numberOfFirst, typeOf};
+ghost use Rattle.rules.specs.Events.{twice, sixParts, plus, sixSums, numberOfFirst, typeOf};
 ghost use Rattle.rules.specs.Refusals.{recordingCheck};
 ghost use Rattle.rules.specs.declared.Taken.the-variants.{Accepted};
 ghost use Rattle.halves.specs.Windows.{Low};
@@ -55,6 +55,16 @@ fn six_parts(a: i32, b: i32, c: i32) -> [u64; 6]
     ]
 }
 
+// Two sixes added, number by number.
+fn add_six(p: [u64; 6], q: [u64; 6]) -> [u64; 6]
+    requires { ⌜ Sixes 100000000000000 p × Sixes 1000000000000 q ⌝ }
+    ensures { λ r. ⌜ r ≡ plus p q ⌝ }
+{
+    let mut sum = p;
+    add_each(&mut sum, &q);
+    sum
+}
+
 // The six sums over a window that lacks no sample.
 fn six_of(w: &[i32]) -> [u64; 6]
     requires few { ⌜ length (now w) ≤ 1536 ⌝ }
@@ -65,8 +75,8 @@ fn six_of(w: &[i32]) -> [u64; 6]
     let mut six = [0; 6];
     let mut i: usize = 0;
     while i < n {
-        let parts = six_parts(w[3 * i], w[3 * i + 1], w[3 * i + 2]);
-        add_each(&mut six, &parts);
+        let next = add_six(six, six_parts(w[3 * i], w[3 * i + 1], w[3 * i + 2]));
+        six = next;
         i += 1;
     }
     six

@@ -7,7 +7,7 @@ use native.Mathlib.Omega.{arith}
 use borrow.Author.Needs.{needs}
 use denote.Ref.{now}
 use lib.IntN.{ℤ, pos, natAbs}
-use lib.ListN.{length, getD}
+use lib.ListN.{getD}
 use mir.Syntax.{w32}
 use mir.Val.{toZ, ofZ}
 use mir.ValLaws.{toZ-ofZ}
@@ -15,12 +15,12 @@ use Rattle.rules.specs.Recorder.{sampleAt}
 use Rattle.rules.specs.Halves.{samplesOf}
 use Rattle.rules.specs.Events.{sixParts, plus}
 use Rattle.sag_type.specs.Six.{sixUpTo, sixIn}
-use Rattle.sag_type.proofs.Sixes.{parts-low, six-low, six-length}
+use Rattle.sag_type.proofs.Sixes.{parts-low, six-low}
 use Rattle.sag_type.proofs.six_of.Statement.{statement}
 use Rattle.sag_type.proofs.six_of.Tie as tie
 
 abbrev Inv-loop : tie.InvT-loop
-Inv-loop w n six₀ i₀ six i = (i ≤ samplesOf w) × (length six ≡ 6) × (six ≡ sixUpTo w i)
+Inv-loop w n six₀ i₀ six i = (i ≤ samplesOf w) × (six ≡ sixUpTo w i)
 
 abbrev μ-loop : tie.MeasureT-loop
 μ-loop w n six₀ i₀ six i = samplesOf w - i
@@ -61,7 +61,7 @@ parts-are : (c : tie.After-six-parts Inv-loop μ-loop)
 parts-are c = rw (c .six-parts .ensures, read-a (c .before .before .before), read-b (c .before .before), read-c (c .before))
 
 loop-holds : tie.Need-loop-holds Inv-loop μ-loop
-loop-holds c = (omega arith, refl, refl)
+loop-holds c = (omega arith, refl)
 
 mul-six-parts : tie.Need-mul-six-parts Inv-loop μ-loop
 mul-six-parts c = search needs
@@ -102,20 +102,12 @@ six-parts-requires c κs =
     rw (read-a (c .before .before), read-b (c .before), read-c c)
     (is-low t 0 (omega arith), is-low t 1 (omega arith), is-low t 2 (omega arith))
 
-slice-aggregate-add-each : tie.Need-slice-aggregate-add-each Inv-loop μ-loop
-slice-aggregate-add-each c = search needs
-
-slice-aggregate-add-each-2 : tie.Need-slice-aggregate-add-each-2 Inv-loop μ-loop
-slice-aggregate-add-each-2 c = search needs
-
-add-each-requires : tie.Need-add-each-requires Inv-loop μ-loop
-add-each-requires c κs =
-    let parts = c .before .before in
-    let t = parts .before .before .before .before in
-    let six : length (parts .six-parts .result) ≡ 6 = search needs in
-    let sums = six-low (ws t) (t .before .before .pre .1) (at t) (omega arith) in
-    let more = parts-low (x t 0) (x t 1) (x t 2) (is-low t 0 (omega arith)) (is-low t 1 (omega arith)) (is-low t 2 (omega arith)) in
-    (omega (arith, t .before .loop .inv .1), (λ i. rw (t .before .loop .inv .2, parts-are parts) (omega (arith, sums i, more i))))
+add-six-requires : tie.Need-add-six-requires Inv-loop μ-loop
+add-six-requires c κs =
+    let t = c .before .before .before .before in (
+      (λ i. rw (t .before .loop .inv .1) (omega (arith, six-low (ws t) (t .before .before .pre .1) (at t) (omega arith) i))),
+      (λ i. rw (parts-are c) (omega (arith, parts-low (x t 0) (x t 1) (x t 2) (is-low t 0 (omega arith)) (is-low t 1 (omega arith)) (is-low t 2 (omega arith)) i))),
+    )
 
 add-i : tie.Need-add-i Inv-loop μ-loop
 add-i c = search needs
@@ -125,18 +117,18 @@ loop-less c = search needs
 
 loop-again : tie.Need-loop-again Inv-loop μ-loop
 loop-again c =
-    let parts = c .before .before .before .before in
-    let t = parts .before .before .before .before in
-    let is : c .before .add-each .last .0 ≡ sixUpTo (ws t) (at t + 1) =
-    c .before .add-each .ensures ∙ ap₂ plus (t .before .loop .inv .2) (parts-are parts) ∙ ap (sixUpTo (ws t)) (sym (add-one (at t))) in
-    (omega arith, rw is (six-length (ws t) (at t + 1)), is)
+    let parts = c .before in
+    let t = parts .before .before .before .before in (
+      omega arith,
+      c .add-six .ensures ∙ ap₂ plus (t .before .loop .inv .1) (parts-are parts) ∙ ap (sixUpTo (ws t)) (sym (add-one (at t))),
+    )
 
 returns : tie.Need-returns Inv-loop μ-loop
 unfolding sixIn
 returns c =
     let w = now (c .before .before .args .w) in
     let e : c .before .loop .i ≡ samplesOf w = omega arith in
-    c .before .loop .inv .2 ∙ ap (sixUpTo w) e
+    c .before .loop .inv .1 ∙ ap (sixUpTo w) e
 
 pub six-of-spec : {M : Type 1} → statement M
 six-of-spec =
@@ -157,9 +149,7 @@ six-of-spec =
     mul-six-parts-6
     shared-slice-copy-out-six-parts-3
     six-parts-requires
-    slice-aggregate-add-each
-    slice-aggregate-add-each-2
-    add-each-requires
+    add-six-requires
     add-i
     loop-less
     loop-again
