@@ -1,12 +1,11 @@
-// What the programs over the known answers share: their settings, their blocks of samples, and how a refusal is written.
-// N 8, R 1,000, f 50, thresholds 90, 10, 110, hysteresis 2.
+// What the programs over the known answers share: their settings, their blocks of samples, K9, and how a refusal is written.
 use rules::Refusal;
 use rules::Settings;
 ghost use mathlib.Core.Path.{_≡_};
 ghost use lib.ListN.{length};
 ghost use Rattle.rules.specs.Known.{settings};
 
-// The settings of the known answers.
+// N 8, R 1,000, f 50, thresholds 90, 10, 110, hysteresis 2.
 pub fn settings() -> Settings
     ensures { λ r. ⌜ r ≡ settings ⌝ }
 {

@@ -1,2 +1,2 @@
--- What the proofs of more than one function cite.
+-- What the proofs of the functions cite.
 pub mod Tests

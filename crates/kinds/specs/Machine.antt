@@ -1,4 +1,4 @@
--- The machine of a kind, as the code runs it: over marks and levels. proofs/ ties it to the rules.
+-- The machine of a kind, as the code runs it, over marks and levels; and what its event comes to. proofs/ ties it to the rules.
 use Prim.Native.Nat.{ℕ, zero, suc, _+_, _-_, _*_, _≤_}
 use mathlib.Core.Path.{_≡_}
 use mathlib.Core.Bool.{Bool, true, false, _&&_, _||_, cond}

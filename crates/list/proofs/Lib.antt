@@ -1,3 +1,4 @@
+-- The two passes of the lister give the list of the rules.
 pub mod Slots
 pub mod Writing
 pub mod Tallies

@@ -1,5 +1,5 @@
 // Offers a fresh table several recordings, refused ones among them, through the public calls, and writes a line for each answer
-// and one for the table.
+// and one for the table. Then the table of zeros that a refused making hands back, which takes nothing.
 use cases::blocks;
 use cases::k9;
 use cases::settings;

@@ -1,3 +1,3 @@
--- What the proofs of more than one function cite.
+-- What the proofs of the functions cite.
 pub mod Signed
 pub mod Sixes

@@ -1,4 +1,5 @@
--- Lists of six: written out, and how large what is made of them can be. Assumes nothing.
+-- Lists of six: written out, their two ends, how large what is made of them can be, and that a window's six are the rules'.
+-- Assumes nothing.
 use Prim.Native.Nat.{ℕ, zero, suc, _+_, _*_, _≤_, _<_, min, max}
 use mathlib.Core.Path.{_≡_, refl}
 use mathlib.Core.Bool.{Bool, true, false, cond}

@@ -1,4 +1,4 @@
--- The six sums as one pass over a window finds them, and how large they are.
+-- The six sums as one pass over a window finds them, how large they are, and both ends of them.
 use Prim.Native.Nat.{ℕ, _≤_}
 use mathlib.Core.List.{List}
 use lib.IntN.{ℤ}
@@ -15,7 +15,7 @@ sixUpTo w n = sixBelow (λ i. sixParts (sampleAt w 0 i) (sampleAt w 1 i) (sample
 unfoldable pub sixIn : List ℤ → List ℕ
 sixIn w = sixUpTo w (samplesOf w)
 
--- six numbers, each at most b
+-- every number at most b
 abbrev pub Sixes : ℕ → List ℕ → Type 0
 Sixes b six = (i : ℕ) → getD six i 0 ≤ b
 

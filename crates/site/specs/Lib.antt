@@ -1,2 +1,2 @@
--- What a table makes of another.
+-- Two tables added.
 pub mod Merging

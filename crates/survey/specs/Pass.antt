@@ -57,7 +57,7 @@ startedBy n was is =
       swells = n .swells + bit (is .swell && not (was .swell));
     }
 
--- what is told of a sag o that half-cycle `end` ends, and of an interruption
+-- what the end of a sag and of an interruption adds
 abbrev pub landedBy : Landed → Track → Track → Bool → Landed
 landedBy n was is isKnown =
     let ends = was .sag .inside && not (is .sag .inside) in
@@ -180,5 +180,3 @@ pub record Surveying (s : Settings) (xs : List ℤ) (m : Thresholds) (halves k :
   pub inside : k < halves
   pub state : p ≡ surveyAt s (halfAt s xs) (halvesOf s xs) k
   pub cells-are : cs ≡ cellsAt s (halfAt s xs) (halvesOf s xs) k
-
--- ---- two tables

@@ -1,2 +1,2 @@
--- What the proofs of more than one function cite.
+-- What follows from the definitions alone.
 pub mod Tables

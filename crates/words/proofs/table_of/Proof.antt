@@ -1,4 +1,4 @@
--- Each number is read at its place, and the cells are the forty from the eleventh on. Assumes nothing.
+-- Each number is read at its place, and the cells are the forty from place 11 on. Assumes nothing.
 use Prim.Native.Nat.{ℕ}
 use mathlib.Core.Path.{_≡_}
 use mathlib.Core.List.{List, append-nil}
