@@ -1,2 +1,2 @@
--- What proofs of more than one crate cite.
+-- What the proofs of the functions cite.
 pub mod Runs

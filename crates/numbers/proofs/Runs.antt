@@ -9,12 +9,14 @@ use lib.ListN.{length, getD, set, take, drop, drop-of-length-le}
 use lib.Seq.{paste, paste-suc, drop-cons, getD-at, take-all, length-take-le}
 use Rattle.rules.specs.Events.{plus}
 
+-- as long as both
 pub plus-length : (xs ys : List ℕ) → length xs ≡ length ys → length (plus xs ys) ≡ length ys
 plus-length [] [] h = refl
 plus-length [] (y ∷ ys) h = absurd (omega arith)
 plus-length (x ∷ xs) [] h = absurd (omega arith)
 plus-length (x ∷ xs) (y ∷ ys) h = ap suc (plus-length xs ys (omega arith))
 
+-- at each place the sum of the two
 plus-at : (xs ys : List ℕ) (i : ℕ) → length xs ≡ length ys → getD xs i 0 + getD ys i 0 ≡ getD (plus xs ys) i 0
 plus-at [] [] i h = omega arith
 plus-at [] (y ∷ ys) i h = absurd (omega arith)
