@@ -25,8 +25,8 @@ pub low-window : (w : List ℤ) → Ranged w → missingIn w ≡ false → Low w
 unfolding missingIn
 low-window w r m i l = low (getD w i (pos 0)) (r i l) (any-at (λ i. missing (getD w i (pos 0))) (length w) m i l)
 
-pub squares-low : (w : List ℤ) → Low w → (c n : ℕ) → c < 3 → n ≤ samplesOf w → squaresIn w c n ≤ n * 10000000000
-squares-low w h c n l m =
+pub window-squares-low : (w : List ℤ) → Low w → (c n : ℕ) → c < 3 → n ≤ samplesOf w → squaresIn w c n ≤ n * 10000000000
+window-squares-low w h c n l m =
     sum-le (λ i. square (sampleAt w c i)) 10000000000 n (λ i p. square-low (sampleAt w c i) (h (3 * i + c) (omega arith)))
 
 -- ---- flags three at a time

@@ -12,7 +12,7 @@ use lib.Dec.{ltb, eqb}
 use lib.IntN.{ℤ}
 use Rattle.rules.specs.Bounded.{before}
 use Rattle.rules.specs.Halves.{known, halfAt, halvesOf}
-use Rattle.rules.specs.Events.{inEvent, starts, endOf, startSeen, seenOf, level, worse, worst, extremeOf, earliest, shorts, shortsOf}
+use Rattle.rules.specs.Events.{inEvent, starts, endOf, seenOf, level, worse, worst, extremeOf, earliest, shorts, shortsOf}
 use Rattle.rules.specs.EventList.{eventFrom}
 use Rattle.rules.proofs.Booleans.{cases}
 use Rattle.rules.proofs.Choices.{of-cond}
@@ -24,7 +24,7 @@ use Rattle.rules.specs.declared.Kind.{Kind}
 use Rattle.rules.specs.declared.Kind.the-variants.{Sag, Interruption, Swell}
 use Rattle.kinds.specs.declared.Level.{Level}
 use Rattle.kinds.specs.declared.Open.{Open}
-use Rattle.kinds.specs.Machine.{levelOf, peakOf, addSums, lasting, launched, opens, finishedBy}
+use Rattle.kinds.specs.Machine.{levelOf, peakOf, addSums, lasting, launched, opens, Going, finishedBy}
 use Rattle.kinds.proofs.Machine.{peak-is, short-is, inside-is, opens-lasts, opens-launches}
 
 -- ---- the worst of a range, a turn at a time
@@ -72,26 +72,13 @@ worse-never Interruption x y z e n f = n (omega arith)
 worse-never Swell x y z e n f = n (omega arith)
 
 module _ (s : Settings) (h : ℕ → Half) (kind : Kind) where
-  pub record Going (k : ℕ) (o : Open) : Type 0 where
-    pub started : o .start < k
-    pub launch : starts s h kind (o .start) ≡ true
-    pub through : (m : ℕ) → o .start ≤ m → m < k → inEvent s h kind m ≡ true
-    pub seen : o .seen ≡ startSeen h (o .start)
-    pub extreme : o .extreme ≡ extremeOf h kind (o .start) k
-    pub at-low : o .start ≤ o .at
-    pub at-high : o .at < k
-    pub at-is : level kind (h (o .at)) ≡ o .extreme
-    pub at-first : (m : ℕ) → o .start ≤ m → m < o .at → level kind (h m) ≡ o .extreme → ⊥
-    pub no-worse : (m : ℕ) → o .start ≤ m → m < k → worse kind (o .extreme) (level kind (h m)) ≡ o .extreme
-    pub short : o .short ≡ shortsOf s h (o .start) k
-
   -- from s up to k + 1 is s up to k, or k
   reach : (P : ℕ → Type 0) (a k : ℕ) → ((m : ℕ) → a ≤ m → m < k → P m) → P k → (m : ℕ) → a ≤ m → m < suc k → P m
   reach P a k f g m l u = ⊎-elim (λ e. subst P (sym e) g) (λ q. f m l q) (eq-or-lt-of-le (omega arith))
 
   at-launch : (k : ℕ) (l : Level) → peakOf kind l ≡ level kind (h k) → l .short ≡ shorts s (h k)
       → inEvent s h kind k ≡ true → before (inEvent s h kind) k ≡ false
-      → Going (suc k) (launched kind (before (λ j. known (h j)) k) k l)
+      → Going s h kind (suc k) (launched kind (before (λ j. known (h j)) k) k l)
   unfolding starts extremeOf shortsOf
   at-launch k l p q i b =
       record {
@@ -116,7 +103,7 @@ module _ (s : Settings) (h : ℕ → Half) (kind : Kind) where
 
   -- an event that lasts: its extreme stays where it was, or is new at k
   at-last : (k : ℕ) (o : Open) (l : Level) → peakOf kind l ≡ level kind (h k) → l .short ≡ shorts s (h k)
-      → inEvent s h kind k ≡ true → Going k o → Going (suc k) (lasting kind k o l)
+      → inEvent s h kind k ≡ true → Going s h kind k o → Going s h kind (suc k) (lasting kind k o l)
   unfolding extremeOf shortsOf
   at-last k o l p q i g =
       let f : ℕ → ℕ = λ j. level kind (h j) in
@@ -153,18 +140,18 @@ module _ (s : Settings) (h : ℕ → Half) (kind : Kind) where
       }
 
   -- THE LAW: inside, the machine holds the event that is going on
-  pub going : (k : ℕ) → opens s h kind k .inside ≡ true → Going k (opens s h kind k)
+  pub open-is-going : (k : ℕ) → opens s h kind k .inside ≡ true → Going s h kind k (opens s h kind k)
   unfolding opens
-  going zero e = absurd (false≢true e)
-  going (suc k) e =
+  open-is-going zero e = absurd (false≢true e)
+  open-is-going (suc k) e =
       let i : inEvent s h kind k ≡ true = sym (inside-is s h kind (suc k)) ∙ e in
       ⊎-elim
-      (λ was. rw (opens-lasts s h kind k i was) (at-last k (opens s h kind k) (levelOf s (h k)) (peak-is s kind (h k)) (short-is s (h k)) i (going k was)))
+      (λ was. rw (opens-lasts s h kind k i was) (at-last k (opens s h kind k) (levelOf s (h k)) (peak-is s kind (h k)) (short-is s (h k)) i (open-is-going k was)))
       (λ was. rw (opens-launches s h kind k i was) (at-launch k (levelOf s (h k)) (peak-is s kind (h k)) (short-is s (h k)) i (sym (inside-is s h kind k) ∙ was)))
       (cases (opens s h kind k .inside))
 
   -- an event that half-cycle k ends: it ends there, and its extreme is where the machine says
-  module _ (n k : ℕ) (o : Open) (g : Going k o) (u : k ≤ n) (out : inEvent s h kind k ≡ false) where
+  module _ (n k : ℕ) (o : Open) (g : Going s h kind k o) (u : k ≤ n) (out : inEvent s h kind k ≡ false) where
     pub ends-here : endOf s h n kind (o .start) ≡ k
     unfolding endOf
     ends-here = first-ends (inEvent s h kind) (o .start) k n (omega (arith, g .started)) u (g .through) out
@@ -179,9 +166,9 @@ module _ (s : Settings) (h : ℕ → Half) (kind : Kind) where
 
 -- what the event comes to
 module _ (s : Settings) (xs : List ℤ) (kind : Kind) (k : ℕ) (o : Open) (g : Going s (halfAt s xs) kind k o) (u : k ≤ halvesOf s xs) (out : inEvent s (halfAt s xs) kind k ≡ false) where
-  pub finished : eventFrom s xs kind (o .start) ≡ finishedBy s xs kind o k (known (halfAt s xs k))
+  pub finished-is-event : eventFrom s xs kind (o .start) ≡ finishedBy s xs kind o k (known (halfAt s xs k))
   unfolding eventFrom seenOf finishedBy
-  finished =
+  finished-is-event =
       rw (
         ends-here s (halfAt s xs) kind (halvesOf s xs) k o g u out,
         first-at s (halfAt s xs) kind (halvesOf s xs) k o g u out,

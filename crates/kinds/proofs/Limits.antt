@@ -13,7 +13,7 @@ use Rattle.rules.specs.Events.{inEvent}
 use Rattle.rules.proofs.Booleans.{cases}
 use Rattle.rules.proofs.DemandTwo.{extreme-high, short-high}
 use Rattle.rules.proofs.Ranges.{Good, full-high}
-use Rattle.rules.proofs.Samples.{Accepts, sums-low}
+use Rattle.rules.proofs.Samples.{AcceptedRecording, sums-low}
 use Rattle.rules.proofs.Longest.{in-known}
 use Rattle.rules.specs.declared.Settings.{Settings}
 use Rattle.rules.specs.declared.Sums.{Sums}
@@ -21,15 +21,15 @@ use Rattle.rules.specs.declared.Half.{Half}
 use Rattle.rules.specs.declared.Half.the-variants.{Unknown, Known}
 use Rattle.rules.specs.declared.Kind.{Kind}
 use Rattle.kinds.specs.declared.Open.{Open}
-use Rattle.kinds.specs.Machine.{markOf, thresholdsOf, shortBy, levelBy, levelOf, opens, Marked, Few, Light, Sound}
+use Rattle.kinds.specs.Machine.{markOf, thresholdsOf, shortBy, levelFrom, levelOf, opens, Going, Marked, Few, Light, Finishable}
 use Rattle.kinds.proofs.Machine.{opens-closed, opens-lasts, opens-launches}
-use Rattle.kinds.proofs.Going.{Going, going}
+use Rattle.kinds.proofs.Going.{open-is-going}
 
 -- a half-cycle's shortfall of a channel is at most N x R x R
 abbrev pub Small : Sums → ℕ → Type 0
 Small v b = (v .a ≤ b) × (v .b ≤ b) × (v .c ≤ b)
 
-pub level-small : (full from : ℕ) (v : Half) → Small (levelBy full from v .short) full
+pub level-small : (full from : ℕ) (v : Half) → Small (levelFrom full from v .short) full
 level-small full from Unknown = (omega arith, omega arith, omega arith)
 level-small full from (Known v) = (high (v .a), high (v .b), high (v .c))
   where
@@ -43,7 +43,7 @@ pub marked : (s : Settings) → Good s → Marked (thresholdsOf s)
 marked s g =
     let h : s .sag * s .sag * full s ≤ 9025 * full s = mul-le-mul-right (full s) (mul-le-mul (g .sag-high) (g .sag-high)) in omega arith
 
-module _ (s : Settings) (xs : List ℤ) (g : Good s) (ok : Accepts s xs) where
+module _ (s : Settings) (xs : List ℤ) (g : Good s) (ok : AcceptedRecording s xs) where
   n-high : s .n * 10000000000 ≤ 5120000000000
   n-high = omega (arith, g .n-high)
 
@@ -98,9 +98,9 @@ module _ (s : Settings) (xs : List ℤ) (g : Good s) (ok : Accepts s xs) where
   pub level-light : (k : ℕ) → Light (levelOf s (h k) .short)
   level-light k = light (levelOf s (h k) .short) (full s) (omega (arith, full-high s g)) (level-at-small k)
 
-  pub sound : (kind : Kind) (k : ℕ) → k ≤ 100001 → opens s h kind k .inside ≡ true → Sound s xs (opens s h kind k)
-  sound kind k l i =
-      let w = going s h kind k i in
+  pub finishable : (kind : Kind) (k : ℕ) → k ≤ 100001 → opens s h kind k .inside ≡ true → Finishable s xs (opens s h kind k)
+  finishable kind k l i =
+      let w = open-is-going s h kind k i in
       record {
         light = opens-light kind k l;
         extreme = extreme-low kind k (opens s h kind k) w;

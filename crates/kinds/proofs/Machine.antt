@@ -10,7 +10,8 @@ use Rattle.rules.specs.Bounded.{before}
 use Rattle.rules.specs.Halves.{known}
 use Rattle.rules.specs.Events.{inEvent, level, shorts}
 use Rattle.rules.proofs.Booleans.{cases}
-use Rattle.rules.proofs.Runs.{goesOn, in-next}
+use Rattle.rules.specs.Demands.{goesOn}
+use Rattle.rules.proofs.Runs.{in-next}
 use Rattle.rules.specs.declared.Settings.{Settings}
 use Rattle.rules.specs.declared.Sums.{Sums}
 use Rattle.rules.specs.declared.Half.{Half}
@@ -21,10 +22,10 @@ use Rattle.kinds.specs.declared.Marks.{Marks}
 use Rattle.kinds.specs.declared.Thresholds.{Thresholds}
 use Rattle.kinds.specs.declared.Level.{Level}
 use Rattle.kinds.specs.declared.Open.{Open}
-use Rattle.kinds.specs.Machine.{markOf, marksOf, thresholdsOf, levelBy, levelOf, peakOf, goesBy, stepBy, lasting, launched, closed, opens}
+use Rattle.kinds.specs.Machine.{markOf, marksOf, thresholdsOf, levelFrom, levelOf, peakOf, goesBy, stepBy, lasting, launched, closed, opens}
 
 -- the level by the thresholds of a pass is that by the settings
-pub level-is : (s : Settings) (m : Thresholds) (v w : Half) (l : Level) → m ≡ thresholdsOf s → v ≡ w → l ≡ levelBy (m .full) (m .sag .from) v → l ≡ levelOf s w
+pub level-is : (s : Settings) (m : Thresholds) (v w : Half) (l : Level) → m ≡ thresholdsOf s → v ≡ w → l ≡ levelFrom (m .full) (m .sag .from) v → l ≡ levelOf s w
 unfolding levelOf
 level-is s m v w l e f g = g ∙ rw (e, f)
 
@@ -129,10 +130,10 @@ unfolding levelOf
 short-is s Unknown = refl
 short-is s (Known v) = refl
 
-pub known-is : (s : Settings) (v : Half) → levelOf s v .known ≡ known v
+pub level-known : (s : Settings) (v : Half) → levelOf s v .known ≡ known v
 unfolding levelOf
-known-is s Unknown = refl
-known-is s (Known v) = refl
+level-known s Unknown = refl
+level-known s (Known v) = refl
 
 step-inside : (kind : Kind) (m : Marks) (seen : Bool) (k : ℕ) (o : Open) (l : Level)
     → stepBy kind m seen k o l .inside ≡ goesBy kind m (o .inside) l

@@ -1,5 +1,5 @@
 -- The machine of a kind, as the code runs it, over marks and levels; and what its event comes to. proofs/ ties it to the rules.
-use Prim.Native.Nat.{ℕ, zero, suc, _+_, _-_, _*_, _≤_}
+use Prim.Native.Nat.{ℕ, zero, suc, _+_, _-_, _*_, _≤_, _<_}
 use mathlib.Core.Path.{_≡_}
 use mathlib.Core.Bool.{Bool, true, false, _&&_, _||_, cond}
 use mathlib.Core.List.{List}
@@ -7,7 +7,7 @@ use lib.Dec.{ltb, eqb}
 use lib.IntN.{ℤ}
 use Rattle.rules.specs.Bounded.{before, bit}
 use Rattle.rules.specs.Halves.{known, halfAt, full}
-use Rattle.rules.specs.Events.{least, greatest, worse, retainedOf, three, sixSums, typeOf}
+use Rattle.rules.specs.Events.{inEvent, starts, startSeen, least, greatest, level, worse, extremeOf, retainedOf, shortsOf, three, sixSums, typeOf}
 use Rattle.rules.specs.EventList.{kindNumber, ofSag}
 use Rattle.rules.specs.declared.Settings.{Settings}
 use Rattle.rules.specs.declared.Sums.{Sums}
@@ -50,9 +50,9 @@ shortBy full from S = cond (ltb (10000 * S) from) (full - S) 0
 abbrev pub nothing : Sums
 nothing = record { a = 0; b = 0; c = 0 }
 
-abbrev pub levelBy : ℕ → ℕ → Half → Level
-levelBy full from Unknown = record { known = false; least = 0; greatest = 0; low = 0; high = 0; short = nothing }
-levelBy full from (Known v) =
+abbrev pub levelFrom : ℕ → ℕ → Half → Level
+levelFrom full from Unknown = record { known = false; least = 0; greatest = 0; low = 0; high = 0; short = nothing }
+levelFrom full from (Known v) =
     record {
       known = true;
       least = least v;
@@ -63,7 +63,7 @@ levelBy full from (Known v) =
     }
 
 unfoldable pub levelOf : Settings → Half → Level
-levelOf s v = levelBy (full s) (markOf s (s .sag)) v
+levelOf s v = levelFrom (full s) (markOf s (s .sag)) v
 
 -- sums of an accepted recording are at most 512 x 10,000,000,000
 abbrev pub Few : Half → Type 0
@@ -125,8 +125,22 @@ opens s h kind zero = closed
 opens s h kind (suc k) =
     stepBy kind (marksOf s kind) (before (λ j. known (h j)) k) k (opens s h kind k) (levelOf s (h k))
 
+-- an event of the kind is going on before half-cycle k, and o holds what it has met so far
+pub record Going (s : Settings) (h : ℕ → Half) (kind : Kind) (k : ℕ) (o : Open) : Type 0 where
+  pub started : o .start < k
+  pub launch : starts s h kind (o .start) ≡ true
+  pub through : (m : ℕ) → o .start ≤ m → m < k → inEvent s h kind m ≡ true
+  pub seen : o .seen ≡ startSeen h (o .start)
+  pub extreme : o .extreme ≡ extremeOf h kind (o .start) k
+  pub at-low : o .start ≤ o .at
+  pub at-high : o .at < k
+  pub at-is : level kind (h (o .at)) ≡ o .extreme
+  pub at-first : (m : ℕ) → o .start ≤ m → m < o .at → level kind (h m) ≡ o .extreme → ⊥
+  pub no-worse : (m : ℕ) → o .start ≤ m → m < k → worse kind (o .extreme) (level kind (h m)) ≡ o .extreme
+  pub short : o .short ≡ shortsOf s h (o .start) k
+
 -- what the machine holds of an accepted recording: bounds, and a known half-cycle of the extreme
-pub record Sound (s : Settings) (xs : List ℤ) (o : Open) : Type 0 where
+pub record Finishable (s : Settings) (xs : List ℤ) (o : Open) : Type 0 where
   pub light : Light (o .short)
   pub extreme : o .extreme ≤ s .n * 10000000000
   pub at : known (halfAt s xs (o .at)) ≡ true

@@ -5,7 +5,7 @@ ghost use Prim.Native.Nat.{_+_, _*_, _≤_};
 ghost use Rattle.rules.specs.Recorder.{settingsGood};
 ghost use Rattle.rules.specs.Halves.{full as fullOf};
 ghost use Rattle.rules.specs.Events.{worse};
-ghost use Rattle.kinds.specs.Machine.{marksOf, thresholdsOf, levelBy, shortBy, peakOf, goesBy, launched, lasting, stepBy, closed, Few, Light};
+ghost use Rattle.kinds.specs.Machine.{marksOf, thresholdsOf, levelFrom, shortBy, peakOf, goesBy, launched, lasting, stepBy, closed, Few, Light};
 use numbers::max;
 use numbers::min;
 use rules::Half;
@@ -119,7 +119,7 @@ fn short(full: u64, from: u64, sum: u64) -> u64
 // What the kinds ask of a half-cycle; `from` is the mark at which a sag begins.
 pub fn level_at(full: u64, from: u64, half: Half) -> Level
     requires { ⌜ (from ≤ 10000 * full) × Few half ⌝ }
-    ensures { λ r. ⌜ r ≡ levelBy full from half ⌝ }
+    ensures { λ r. ⌜ r ≡ levelFrom full from half ⌝ }
 {
     let Half::Known(v) = half else {
         return Level {

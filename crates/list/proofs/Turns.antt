@@ -10,7 +10,7 @@ use Rattle.rules.specs.Halves.{known, halfAt, halvesOf}
 use Rattle.rules.specs.Events.{starts}
 use Rattle.rules.specs.Refusals.{recordingCheck}
 use Rattle.rules.proofs.Booleans.{bit-le}
-use Rattle.rules.proofs.Samples.{accepts}
+use Rattle.rules.proofs.Samples.{accepted-recording}
 use Rattle.rules.specs.declared.Settings.{Settings}
 use Rattle.rules.specs.declared.Kind.{Kind}
 use Rattle.rules.specs.declared.Kind.the-variants.{Sag, Interruption, Swell}
@@ -23,7 +23,7 @@ use Rattle.list.specs.declared.Visited.{Visited}
 use Rattle.list.specs.declared.Pass.{Pass}
 use Rattle.kinds.specs.Machine.{marksOf, thresholdsOf, levelOf}
 use Rattle.list.specs.Listing.{Ready, Visiting, ReadyAll, visited, closes, turned, turnedOut}
-use Rattle.kinds.proofs.Machine.{known-is}
+use Rattle.kinds.proofs.Machine.{level-known}
 
 -- what a turn asks
 pub record Turning (s : Settings) (xs : List ℤ) (m : Thresholds) (k : ℕ) (p : Pass) (room : ℕ) : Type 0 where
@@ -52,7 +52,7 @@ module _ {s : Settings} {xs : List ℤ} {m : Thresholds} {k : ℕ} {p : Pass} {r
         high = t .high;
         ready = rw same ready;
         levels = is;
-        few = omega (arith, few, t .ready .few, t .high, accepts s xs (t .accepted) .few);
+        few = omega (arith, few, t .ready .few, t .high, accepted-recording s xs (t .accepted) .few);
       }
 
   -- the three visits together
@@ -60,7 +60,7 @@ module _ {s : Settings} {xs : List ℤ} {m : Thresholds} {k : ℕ} {p : Pass} {r
       (ec : c ≡ visited s xs Swell k (p .swell) (b .n)) where
     pub turn-made : _≡_ {A = Pass} (record { known = l .known; n = c .n; sag = a .pending; interruption = b .pending; swell = c .pending }) (turned s xs k p)
     unfolding turned
-    turn-made = rw (ec, eb, ea, is, known-is s (halfAt s xs k))
+    turn-made = rw (ec, eb, ea, is, level-known s (halfAt s xs k))
 
   pub turn-out : (out o₁ o₂ o₃ : List ℕ) → o₁ ≡ closes s xs Sag k (p .sag) out → o₂ ≡ closes s xs Interruption k (p .interruption) o₁
       → o₃ ≡ closes s xs Swell k (p .swell) o₂ → o₃ ≡ turnedOut s xs k p out

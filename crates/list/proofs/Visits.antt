@@ -14,7 +14,7 @@ use Rattle.rules.specs.Events.{inEvent, starts}
 use Rattle.rules.specs.EventList.{eventFrom, wordsOf}
 use Rattle.rules.proofs.Booleans.{both}
 use Rattle.rules.proofs.Ranges.{Good, good}
-use Rattle.rules.proofs.Samples.{Accepts, accepts}
+use Rattle.rules.proofs.Samples.{AcceptedRecording, accepted-recording}
 use Rattle.rules.specs.declared.Settings.{Settings}
 use Rattle.rules.specs.declared.Half.{Half}
 use Rattle.rules.specs.declared.Kind.{Kind}
@@ -24,11 +24,11 @@ use Rattle.kinds.specs.declared.Level.{Level}
 use Rattle.kinds.specs.declared.Open.{Open}
 use Rattle.list.specs.declared.Pending.{Pending}
 use Rattle.list.specs.declared.Visited.{Visited}
-use Rattle.kinds.specs.Machine.{stepBy, opens, Light, Sound, finishedBy}
+use Rattle.kinds.specs.Machine.{stepBy, opens, Light, Finishable, finishedBy}
 use Rattle.list.specs.Listing.{Visiting, visited, closes}
-use Rattle.kinds.proofs.Machine.{known-is, inside-of}
-use Rattle.kinds.proofs.Going.{going, finished}
-use Rattle.kinds.proofs.Limits.{opens-light, level-light, sound}
+use Rattle.kinds.proofs.Machine.{level-known, inside-of}
+use Rattle.kinds.proofs.Going.{open-is-going, finished-is-event}
+use Rattle.kinds.proofs.Limits.{opens-light, level-light, finishable}
 
 module _ {s : Settings} {xs : List ℤ} {kind : Kind} {m : Marks} {seen : Bool} {k : ℕ} {p : Pending} {l : Level} {n room : ℕ}
     (v : Visiting s xs kind m seen k p l n room) where
@@ -38,8 +38,8 @@ module _ {s : Settings} {xs : List ℤ} {kind : Kind} {m : Marks} {seen : Bool} 
   g : Good s
   g = good s (v .good-settings)
 
-  ok : Accepts s xs
-  ok = accepts s xs (v .accepted)
+  ok : AcceptedRecording s xs
+  ok = accepted-recording s xs (v .accepted)
 
   k-high : k ≤ 100001
   k-high = omega (arith, v .high, ok .few)
@@ -48,9 +48,9 @@ module _ {s : Settings} {xs : List ℤ} {kind : Kind} {m : Marks} {seen : Bool} 
   step-ready =
       (rw (v .ready .state) (opens-light s xs g ok kind k k-high), rw (v .levels) (level-light s xs g ok k))
 
-  pub finish-ready : p .event .inside ≡ true → Sound s xs (p .event)
+  pub finish-ready : p .event .inside ≡ true → Finishable s xs (p .event)
   finish-ready i =
-      let e = v .ready .state in rw e (sound s xs g ok kind k k-high (ap (λ (o : Open). o .inside) (sym e) ∙ i))
+      let e = v .ready .state in rw e (finishable s xs g ok kind k k-high (ap (λ (o : Open). o .inside) (sym e) ∙ i))
 
   -- where the kind stood, and stands
   was-in : p .event .inside ≡ before (inEvent s h kind) k
@@ -76,7 +76,7 @@ module _ {s : Settings} {xs : List ℤ} {kind : Kind} {m : Marks} {seen : Bool} 
       event-is e f =
           let o = v .ready .state in
           let i : opens s h kind k .inside ≡ true = ap (λ (o : Open). o .inside) (sym o) ∙ was-inside in
-          f ∙ rw (o, v .levels, known-is s (h k)) (sym (finished s xs kind k (opens s h kind k) (going s h kind k i) (v .high) not-in))
+          f ∙ rw (o, v .levels, level-known s (h k)) (sym (finished-is-event s xs kind k (opens s h kind k) (open-is-going s h kind k i) (v .high) not-in))
 
       pub ended : _≡_ {A = Visited} (record { pending = record { event = is; slot = p .slot }; n = n }) (visited s xs kind k p n)
       unfolding visited starts

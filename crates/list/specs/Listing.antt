@@ -17,7 +17,7 @@ use Rattle.rules.specs.declared.Half.{Half}
 use Rattle.rules.specs.declared.Kind.{Kind}
 use Rattle.rules.specs.declared.Kind.the-variants.{Sag, Interruption, Swell}
 use Rattle.rules.specs.declared.Taken.the-variants.{Accepted}
-use Rattle.kinds.specs.Machine.{marksOf, levelBy, levelOf, goesBy, closed, opens}
+use Rattle.kinds.specs.Machine.{marksOf, levelFrom, levelOf, goesBy, closed, opens}
 use Rattle.kinds.specs.declared.Marks.{Marks}
 use Rattle.kinds.specs.declared.Thresholds.{Thresholds}
 use Rattle.kinds.specs.declared.Level.{Level}
@@ -30,7 +30,7 @@ use Rattle.list.specs.declared.Pass.{Pass}
 
 unfoldable pub tallied : Thresholds → Tally → Half → Tally
 tallied m t v =
-    let l = levelBy (m .full) (m .sag .from) v in
+    let l = levelFrom (m .full) (m .sag .from) v in
     let sag = goesBy Sag (m .sag) (t .sag) l in
     let interruption = goesBy Interruption (m .interruption) (t .interruption) l in
     let swell = goesBy Swell (m .swell) (t .swell) l in

@@ -11,7 +11,7 @@ ghost use Rattle.rules.specs.Events.{three, sixSums, typeOf};
 ghost use Rattle.rules.specs.EventList.{kindNumber, ofSag, wordsOf, eventsOf, flat};
 ghost use Rattle.rules.specs.Refusals.{settingsCheck, recordingCheck, andThen, listed, written};
 ghost use Rattle.rules.specs.declared.Taken.the-variants.{Accepted};
-ghost use Rattle.kinds.specs.Machine.{thresholdsOf, Marked, Few, Light, Sound, seenNumber, finishedBy};
+ghost use Rattle.kinds.specs.Machine.{thresholdsOf, Marked, Few, Light, Finishable, seenNumber, finishedBy};
 ghost use Rattle.list.specs.Listing.{tallied, Visiting, visited, closes, ReadyAll, startPass, turned, turnedOut, over};
 use checks::check_recording;
 use checks::check_settings;
@@ -171,7 +171,7 @@ fn class_of(s: Settings, samples: &[i32], kind: Kind, at: u64) -> u64
 
 // The event that half-cycle `end` ends; `known` tells of that half-cycle.
 fn finish(s: Settings, samples: &[i32], kind: Kind, o: Open, end: u64, known: bool) -> Event
-    requires { ⌜ (settingsGood s ≡ true) × (recordingCheck s (now samples) ≡ Accepted) × Sound s (now samples) o ⌝ }
+    requires { ⌜ (settingsGood s ≡ true) × (recordingCheck s (now samples) ≡ Accepted) × Finishable s (now samples) o ⌝ }
     ensures { λ r. ⌜ r ≡ finishedBy s (now (samples .entry)) kind o end known ⌝ }
 {
     let short = o.short;

@@ -11,9 +11,10 @@ use native.Mathlib.Omega.{arith}
 use borrow.Author.Tests.{lt-ltb, ltb-true, le-leb, leb-true, lt-leb, leb-false, eqb-false, ne-eqb, not-true}
 use lib.Dec.{leb, ltb, eqb}
 use lib.ListN.{length, getD}
-use Rattle.rules.specs.Bounded.{all, count, sum, firstNot}
+use Rattle.rules.specs.Bounded.{count, sum, firstNot}
 use Rattle.rules.specs.Halves.{full, atMost}
 use Rattle.rules.specs.Site.{placeOf, rowBorders, rowOf, columnBorders, columnOf, cellAt, sagCell, isPlaced, cells}
+use Rattle.rules.specs.Demands.{rising, liesIn, Falling}
 use Rattle.rules.specs.declared.Settings.{Settings}
 use Rattle.rules.specs.declared.Half.{Half}
 use Rattle.rules.proofs.Adding.{parts-make-up}
@@ -21,22 +22,6 @@ use Rattle.rules.proofs.Booleans.{both, not-both}
 use Rattle.rules.proofs.Bounded.{all-at}
 use Rattle.rules.proofs.Choices.{or-by, or-else, lower}
 use Rattle.rules.proofs.Longest.{first-high, first-between, first-refused}
-
--- ---- what is said of borders
-
--- each border is below the next
-abbrev pub rising : List ℕ → Bool
-rising bs = all (λ i. ltb (getD bs i 0) (getD bs (suc i) 0)) (length bs - 1)
-
--- in place i, of which there is one more than borders: border i - 1, where there is one, is passed, and border i, where there is
--- one, is not
-unfoldable pub liesIn : (ℕ → Bool) → List ℕ → ℕ → Bool
-liesIn passed bs i =
-    leb i (length bs) && (eqb i 0 || passed (getD bs (i - 1) 0)) && (leb (length bs) i || not (passed (getD bs i 0)))
-
--- a border below a passed one is passed
-abbrev pub Falling : (ℕ → Bool) → Type 0
-Falling passed = (b c : ℕ) → b ≤ c → passed c ≡ true → passed b ≡ true
 
 -- ---- the place is where the walk over the borders stops
 

@@ -2,7 +2,7 @@
 -- took, each count by its own: what one recording adds is told of any field once, and a table that grew from a fresh one is never
 -- unsound. Assumes nothing.
 use Prim.Native.Nat.{ℕ, zero, suc, _+_, _-_, _*_, _≤_, _<_}
-use mathlib.Core.Path.{_≡_, refl, sym, ap, _∙_}
+use mathlib.Core.Path.{_≡_, refl, sym, ap, subst, _∙_}
 use mathlib.Core.Bool.{Bool, true, false, not, _&&_, _||_, cond}
 use mathlib.Core.List.{List, [], _∷_}
 use native.Mathlib.Nat.{mul-add, mul-comm}
@@ -19,6 +19,7 @@ use Rattle.rules.specs.Events.{inEvent, starts, endOf, startSeen, endSee
 use Rattle.rules.specs.EventList.{eventFrom}
 use Rattle.rules.specs.Site.{cellOf, isHealthy, isDisturbed, isUnknown, isPlaced, isUnplaced, sagCell, isContained, isStray, sagShort, cellsFrom, grown, cells, empty, total, mostHalves, isUnsound}
 use Rattle.rules.specs.Refusals.{recordingCheck, settingsCheck, byCheck, andThen, freshened, soundCheck, fullCheck, addCheck, added}
+use Rattle.rules.specs.Demands.{Scorable, offer, taken, admits, admitted, sumOver, placedIn, SumsUp}
 use Rattle.rules.specs.declared.Settings.{Settings}
 use Rattle.rules.specs.declared.Half.{Half}
 use Rattle.rules.specs.declared.Kind.the-variants.{Sag, Interruption, Swell}
@@ -34,26 +35,8 @@ use Rattle.rules.proofs.Choices.{of-cond}
 use Rattle.rules.proofs.Classes.{count-cut, three-classes, placed-or-not}
 use Rattle.rules.proofs.DemandTwo.{shorts-high, event-passes, reason-of, seen-both}
 use Rattle.rules.proofs.Ranges.{good}
-use Rattle.rules.proofs.Samples.{accepts, sum-le, goes-on, both-accept}
-use Rattle.rules.proofs.Scorable.{Scorable}
+use Rattle.rules.proofs.Samples.{accepted-recording, sum-le, goes-on, both-accept}
 use Rattle.rules.proofs.Shortfall.{shortfalls-agree}
-
--- ---- recordings offered in sequence
-
--- each in turn handed to `added`, and the table taken on
-abbrev pub offer : Table → List (List ℤ) → Table
-offer t [] = t
-offer t (xs ∷ rs) = offer (added t xs .table) rs
-
--- those that are accepted at their turn
-abbrev pub taken : Table → List (List ℤ) → List (List ℤ)
-taken t [] = []
-taken t (xs ∷ rs) = let rest = taken (added t xs .table) rs in byCheck (addCheck t xs) (xs ∷ rest) (λ r. rest)
-
--- the sum of what g gives of each
-abbrev pub over : (List ℤ → ℕ) → List (List ℤ) → ℕ
-over g [] = 0
-over g (xs ∷ rs) = g xs + over g rs
 
 -- a refused recording changes nothing
 pub refused-same : (t : Table) (xs : List ℤ) (r : Refusal) → addCheck t xs ≡ Refused r → added t xs .table ≡ t
@@ -78,13 +61,13 @@ module _ (P : Table → Type 0) (keeps : (t : Table) (xs : List ℤ) → P t →
 
   -- THE LAW: a field to which each accepted recording adds g holds the sum of g over those taken
   module _ (f : Table → ℕ) (g : List ℤ → ℕ) (adds : (t : Table) (xs : List ℤ) → P t → f (grown t xs) ≡ f t + g xs) where
-    pub offer-adds : (t : Table) (rs : List (List ℤ)) → P t → f (offer t rs) ≡ f t + over g (taken t rs)
+    pub offer-adds : (t : Table) (rs : List (List ℤ)) → P t → f (offer t rs) ≡ f t + sumOver g (taken t rs)
     unfolding added
     offer-adds t [] p = omega arith
     offer-adds t (xs ∷ rs) p =
         offer-adds (added t xs .table) rs (added-keeps t xs p) ∙ go (addCheck t xs)
       where
-        go : (c : Taken) → f (byCheck c (grown t xs) (λ r. t)) + over g (taken (added t xs .table) rs) ≡ f t + over g (byCheck c (xs ∷ taken (added t xs .table) rs) (λ r. taken (added t xs .table) rs))
+        go : (c : Taken) → f (byCheck c (grown t xs) (λ r. t)) + sumOver g (taken (added t xs .table) rs) ≡ f t + sumOver g (byCheck c (xs ∷ taken (added t xs .table) rs) (λ r. taken (added t xs .table) rs))
         go Accepted = omega (arith, adds t xs p)
         go (Refused r) = refl
 
@@ -177,14 +160,14 @@ sound-made t r =
 -- ---- an accepted recording keeps a table sound
 
 -- what an accepting check says
-pub record Adds (t : Table) (xs : List ℤ) : Type 0 where
+pub record AcceptedAdding (t : Table) (xs : List ℤ) : Type 0 where
   pub sound : isUnsound t ≡ false
   pub recording : recordingCheck (t .settings) xs ≡ Accepted
   pub fits : t .total + halvesOf (t .settings) xs ≤ mostHalves
 
-pub adds : (t : Table) (xs : List ℤ) → addCheck t xs ≡ Accepted → Adds t xs
+pub accepted-adding : (t : Table) (xs : List ℤ) → addCheck t xs ≡ Accepted → AcceptedAdding t xs
 unfolding addCheck soundCheck fullCheck
-adds t xs h =
+accepted-adding t xs h =
     let p = both-accept (soundCheck t) (andThen (recordingCheck (t .settings) xs) (fullCheck t xs)) h in
     let q = both-accept (recordingCheck (t .settings) xs) (fullCheck t xs) (p .1) in
     record {
@@ -205,10 +188,6 @@ sag-short-high s xs =
     sum-le (λ k. cond (inEvent s (halfAt s xs) Sag k) (three (shorts s (halfAt s xs k))) 0) (3 * full s) (halvesOf s xs)
     (λ k l. of-cond (λ x. x ≤ 3 * full s) (inEvent s (halfAt s xs) Sag k) (three (shorts s (halfAt s xs k))) 0 (λ e. shorts-high s (halfAt s xs k)) (λ e. omega arith))
 
--- the sags of a recording that go in cell i
-abbrev pub placedIn : Settings → List ℤ → ℕ → ℕ
-placedIn s xs i = let h = halfAt s xs in let n = halvesOf s xs in count (λ k. isPlaced s h n k && eqb (sagCell s h n k) i) n
-
 -- the cell of a placed sag is that of its event in the list
 pub placed-cell : (s : Settings) (xs : List ℤ) → settingsGood s ≡ true → recordingCheck s xs ≡ Accepted
     → (k : ℕ) → isPlaced s (halfAt s xs) (halvesOf s xs) k ≡ true → cellOf s (eventFrom s xs Sag k) ≡ sagCell s (halfAt s xs) (halvesOf s xs) k
@@ -219,7 +198,7 @@ placed-cell s xs g ok k h =
     let scorable : Scorable s (eventFrom s xs Sag k) =
     record {
       settings = g;
-      event = event-passes s xs (good s g) (accepts s xs ok) Sag k (p .0);
+      event = event-passes s xs (good s g) (accepted-recording s xs ok) Sag k (p .0);
       sag = refl;
       seen = eqb-true (seenOf (halfAt s xs) k b) 3 (seen-both (halfAt s xs) k b ∙ p .1);
     } in
@@ -242,7 +221,7 @@ grown-sound t xs forty ok =
     let s = t .settings in
     let h = halfAt s xs in
     let n = halvesOf s xs in
-    let a = adds t xs ok in
+    let a = accepted-adding t xs ok in
     let r = sound-parts t (a .sound) in
     sound-made (grown t xs)
     record {
@@ -305,17 +284,6 @@ grown-keeps s t xs r ok =
 pub fresh-grown : (s : Settings) → settingsGood s ≡ true → Grown s (empty s)
 fresh-grown s g = record { settings = refl; forty = refl; sound = empty-sound s g }
 
--- which recordings are taken, told with no table: s its settings, n the half-cycles so far
-abbrev pub admits : Settings → ℕ → List ℤ → Taken
-admits s n xs = andThen (recordingCheck s xs) (cond (ltb mostHalves (n + halvesOf s xs)) (Refused (Full (mostHalves - n))) Accepted)
-
-abbrev pub admitted : Settings → ℕ → List (List ℤ) → List (List ℤ)
-admitted s n [] = []
-admitted s n (xs ∷ rs) =
-    let more = admitted s (n + halvesOf s xs) rs in
-    let same = admitted s n rs in
-    byCheck (admits s n xs) (xs ∷ more) (λ r. same)
-
 module _ (s : Settings) where
   -- a table that grew refuses a recording only for what the recording is, or because it is full
   pub check-is : (t : Table) (xs : List ℤ) → Grown s t → addCheck t xs ≡ admits s (t .total) xs
@@ -339,46 +307,46 @@ module _ (s : Settings) where
       go Accepted h more same = ap (λ l. xs ∷ l) (more h ∙ rw (total-grown t xs r))
       go (Refused q) h more same = same
 
+-- ---- bad settings: the table that a refused making hands back takes nothing, ever
+
+pub unsound-takes-nothing : (t : Table) → isUnsound t ≡ true → (rs : List (List ℤ)) → (taken t rs ≡ []) × (offer t rs ≡ t)
+unfolding added addCheck soundCheck
+unsound-takes-nothing t u [] = (refl, refl)
+unsound-takes-nothing t u (xs ∷ rs) = rw u (unsound-takes-nothing t u rs)
+
+pub bad-settings-take-nothing : (s : Settings) → settingsGood s ≡ false → (rs : List (List ℤ))
+    → (taken (freshened s .table) rs ≡ []) × (offer (freshened s .table) rs ≡ freshened s .table)
+bad-settings-take-nothing s b rs = unsound-takes-nothing (freshened s .table) (fresh-bad s b) rs
+
+-- ---- good settings
+
 module _ (s : Settings) (g : settingsGood s ≡ true) (rs : List (List ℤ)) where
+  -- what holds of the empty table holds of the one that `freshened` hands over
+  of-fresh : (P : Table → Type 0) → P (empty s) → P (freshened s .table)
+  of-fresh P p = subst P (sym (fresh-good s g .1)) p
+
   -- THE LAW: it keeps its settings and its forty cells, and is never unsound
-  pub stays-grown : Grown s (offer (empty s) rs)
+  stays-grown : Grown s (offer (empty s) rs)
   stays-grown = offer-keeps (Grown s) (grown-keeps s) (empty s) rs (fresh-grown s g)
 
-  pub stays-sound : isUnsound (offer (empty s) rs) ≡ false
-  stays-sound = stays-grown .sound
+  pub stays-sound : isUnsound (offer (freshened s .table) rs) ≡ false
+  stays-sound = of-fresh (λ t. isUnsound (offer t rs) ≡ false) (stays-grown .sound)
 
   -- so which are taken is told by the recordings alone
-  pub taken-admitted : taken (empty s) rs ≡ admitted s 0 rs
-  taken-admitted = taken-is s (empty s) rs (fresh-grown s g)
+  pub taken-admitted : taken (freshened s .table) rs ≡ admitted s 0 rs
+  taken-admitted = of-fresh (λ t. taken t rs ≡ admitted s 0 rs) (taken-is s (empty s) rs (fresh-grown s g))
 
 -- ---- what the table holds, told from the recordings it took
 
--- each count its own, each straight from the samples
-pub record Tally (s : Settings) (t : Table) (ok : List (List ℤ)) : Type 0 where
-  pub settings : t .settings ≡ s
-  pub total : t .total ≡ over (halvesOf s) ok
-  pub healthy : t .healthy ≡ over (λ xs. count (isHealthy s (halfAt s xs)) (halvesOf s xs)) ok
-  pub disturbed : t .disturbed ≡ over (λ xs. count (isDisturbed s (halfAt s xs)) (halvesOf s xs)) ok
-  pub unknown : t .unknown ≡ over (λ xs. count (isUnknown s (halfAt s xs)) (halvesOf s xs)) ok
-  pub forty : length (t .cells) ≡ cells
-  pub placed : (i : ℕ) → i < cells → getD (t .cells) i 0 ≡ over (λ xs. placedIn s xs i) ok
-  pub unplaced : t .unplaced ≡ over (λ xs. count (isUnplaced s (halfAt s xs) (halvesOf s xs)) (halvesOf s xs)) ok
-  pub sags : t .sags ≡ over (λ xs. count (starts s (halfAt s xs) Sag) (halvesOf s xs)) ok
-  pub interruptions : t .interruptions ≡ over (λ xs. count (starts s (halfAt s xs) Interruption) (halvesOf s xs)) ok
-  pub swells : t .swells ≡ over (λ xs. count (starts s (halfAt s xs) Swell) (halvesOf s xs)) ok
-  pub stray : t .stray ≡ over (λ xs. count (isStray s (halfAt s xs) (halvesOf s xs)) (halvesOf s xs)) ok
-  pub shortfall : t .shortfall ≡ over (sagShort s) ok
-
 module _ (s : Settings) (g : settingsGood s ≡ true) (rs : List (List ℤ)) where
   counted : (f : Table → ℕ) (add : List ℤ → ℕ) → ((t : Table) (xs : List ℤ) → Grown s t → f (grown t xs) ≡ f t + add xs)
-      → f (empty s) ≡ 0 → f (offer (empty s) rs) ≡ over add (taken (empty s) rs)
+      → f (empty s) ≡ 0 → f (offer (empty s) rs) ≡ sumOver add (taken (empty s) rs)
   counted f add step none =
       offer-adds (Grown s) (grown-keeps s) f add step (empty s) rs (fresh-grown s g) ∙ omega arith
 
-  -- THE LAW: offered any recordings in any sequence
-  pub offered : Tally s (offer (empty s) rs) (taken (empty s) rs)
+  from-empty : SumsUp s (offer (empty s) rs) (taken (empty s) rs)
   unfolding grown
-  offered =
+  from-empty =
       record {
         settings = stays-grown s g rs .settings;
         total = counted (λ t. t .total) (halvesOf s) (λ t xs r. rw (r .settings)) refl;
@@ -400,16 +368,20 @@ module _ (s : Settings) (g : settingsGood s ≡ true) (rs : List (List ℤ)) whe
           let q : 0 + i ≡ i = omega arith in
           cells-at (placedIn (t .settings) xs) (t .cells) 0 i (omega (arith, r .forty)) ∙ rw (q, r .settings)
 
-  -- the three classes make up all, and the cells with the unplaced all sags
-  pub classes-make-up : offer (empty s) rs .healthy + offer (empty s) rs .disturbed + offer (empty s) rs .unknown ≡ offer (empty s) rs .total
-  classes-make-up = sound-parts (offer (empty s) rs) (stays-sound s g rs) .classes
+  -- THE LAW: a fresh table offered any recordings in any sequence holds what those that it took add up to
+  pub fresh-sums-up : SumsUp s (offer (freshened s .table) rs) (taken (freshened s .table) rs)
+  fresh-sums-up = of-fresh s g rs (λ t. SumsUp s (offer t rs) (taken t rs)) from-empty
 
-  pub places-make-up : total (offer (empty s) rs .cells) + offer (empty s) rs .unplaced ≡ offer (empty s) rs .sags
-  places-make-up = sound-parts (offer (empty s) rs) (stays-sound s g rs) .places
+  -- the three classes make up all, and the cells with the unplaced all sags
+  pub classes-make-up : let t = offer (freshened s .table) rs in t .healthy + t .disturbed + t .unknown ≡ t .total
+  classes-make-up = sound-parts (offer (freshened s .table) rs) (stays-sound s g rs) .classes
+
+  pub places-make-up : let t = offer (freshened s .table) rs in total (t .cells) + t .unplaced ≡ t .sags
+  places-make-up = sound-parts (offer (freshened s .table) rs) (stays-sound s g rs) .places
 
 -- two tables that hold this are one
-pub tally-one : (s : Settings) (t u : Table) (ok : List (List ℤ)) → Tally s t ok → Tally s u ok → t ≡ u
-tally-one s t u ok x y =
+pub only-one-sums-up : (s : Settings) (t u : Table) (ok : List (List ℤ)) → SumsUp s t ok → SumsUp s u ok → t ≡ u
+only-one-sums-up s t u ok x y =
     let cs : t .cells ≡ u .cells =
     ext-getD 0 (t .cells) (u .cells) (x .forty ∙ sym (y .forty)) (λ i l. let k : i < cells = omega (arith, x .forty) in x .placed i k ∙ sym (y .placed i k)) in
     λ i.

@@ -18,6 +18,7 @@ use Rattle.rules.specs.Events.{begins, ends, inEvent, isRun, starts, end
 use Rattle.rules.specs.EventList.{kindNumber, eventFrom, eventsOf}
 use Rattle.rules.specs.Scores.{inBounds, isSag, sagGood, otherGood, isEvent, unseenOf, reasonOf, scoreOf, scoring}
 use Rattle.rules.specs.Refusals.{recordingCheck}
+use Rattle.rules.specs.Demands.{Scorable}
 use Rattle.rules.specs.declared.Settings.{Settings}
 use Rattle.rules.specs.declared.Sums.{Sums}
 use Rattle.rules.specs.declared.Half.{Half}
@@ -34,8 +35,8 @@ use Rattle.rules.proofs.Longest.{starts-run, run-starts, starts-before-
 use Rattle.rules.proofs.Order.{in-list}
 use Rattle.rules.proofs.Ranges.{Good, good}
 use Rattle.rules.proofs.Runs.{in-next}
-use Rattle.rules.proofs.Samples.{Accepts, accepts, sums-low, length-six, type-high}
-use Rattle.rules.proofs.Scorable.{event-bounds, unseen-is, Scorable, scorable}
+use Rattle.rules.proofs.Samples.{AcceptedRecording, accepted-recording, sums-low, length-six, type-high}
+use Rattle.rules.proofs.Scorable.{event-bounds, unseen-is, scorable}
 use Rattle.rules.proofs.Shortfall.{three-channels}
 
 -- ---- the list holds the longest unbroken runs of each kind
@@ -80,7 +81,7 @@ level-high : (kind : Kind) (x : Half) (b : ℕ) → ((v : Sums) → x ≡ Known 
 level-high kind Unknown b h = omega arith
 level-high kind (Known v) b h = level-by-high kind v b (h v refl)
 
-pub extreme-high : (s : Settings) (xs : List ℤ) → Good s → Accepts s xs → (kind : Kind) (a e : ℕ)
+pub extreme-high : (s : Settings) (xs : List ℤ) → Good s → AcceptedRecording s xs → (kind : Kind) (a e : ℕ)
     → extremeOf (halfAt s xs) kind a e ≤ s .n * 10000000000
 unfolding extremeOf
 extreme-high s xs g ok kind a e =
@@ -177,7 +178,7 @@ pub seen-high : (h : ℕ → Half) (a b : ℕ) → seenOf h a b ≤ 3
 unfolding seenOf
 seen-high h a b = omega (arith, bit-le (startSeen h a), bit-le (endSeen h b))
 
-module _ (s : Settings) (xs : List ℤ) (g : Good s) (ok : Accepts s xs) where
+module _ (s : Settings) (xs : List ℤ) (g : Good s) (ok : AcceptedRecording s xs) where
   bounds-pass : (kind : Kind) (a : ℕ) → starts s (halfAt s xs) kind a ≡ true → inBounds s (eventFrom s xs kind a) ≡ true
   unfolding inBounds eventFrom
   bounds-pass kind a e =
@@ -267,7 +268,7 @@ unseen-start-or-end s xs kind a h =
 
 module _ (s : Settings) (xs : List ℤ) (g : settingsGood s ≡ true) (ok : recordingCheck s xs ≡ Accepted) (e : Event) (m : List·Memᴰ e (eventsOf s xs)) where
   pub every-event-passes : isEvent s e ≡ true
-  every-event-passes = let r = in-list s xs e .0 m in rw (r .4) (event-passes s xs (good s g) (accepts s xs ok) (r .0) (r .1) (r .3))
+  every-event-passes = let r = in-list s xs e .0 m in rw (r .4) (event-passes s xs (good s g) (accepted-recording s xs ok) (r .0) (r .1) (r .3))
 
   -- THE LAW: a sag of the list with both ends seen has exactly its score
   pub seen-sag-scored : isSag e ≡ true → e .seen ≡ 3 → scoring s e ≡ Scored (scoreOf s e)

@@ -2,40 +2,24 @@
 -- `join` puts after another starts later, and the three of one start differ in kind. Assumes nothing.
 use Prim.Native.Nat.{ℕ, zero, suc, _+_, _*_, _<_}
 use mathlib.Core.Path.{_≡_, refl, ap, _∙_}
-use mathlib.Core.Bool.{Bool, true, false, _&&_, _||_, cond}
+use mathlib.Core.Bool.{Bool, true, false, cond}
 use mathlib.Core.List.{List, [], _∷_, _++_, List·Memᴰ, List·Memᴰ·head, List·Memᴰ·tail, List·Memᴰ·not-nil, List·Memᴰ·append-cases, List·Memᴰ·eq-of-singleton, Memᴰ·append-left, Memᴰ·append-right}
 use mathlib.Core.Logic.{⊎-elim, _↔_}
 use native.Mathlib.Nat.{eq-or-lt-of-le}
 use native.Mathlib.Omega.{arith}
 use borrow.Author.Tests.{lt-ltb, le-ltb, eq-eqb}
-use lib.Dec.{ltb, eqb}
 use lib.IntN.{ℤ}
 use lib.ListN.{length, getD, length-append}
 use Rattle.rules.specs.Bounded.{bit, count, join}
 use Rattle.rules.specs.Halves.{halfAt, halvesOf}
 use Rattle.rules.specs.Events.{starts}
 use Rattle.rules.specs.EventList.{kindNumber, eventFrom, eventAt, eventsAt, eventsOf, flat}
+use Rattle.rules.specs.Demands.{earlier, every, sorted}
 use Rattle.rules.specs.declared.Settings.{Settings}
 use Rattle.rules.specs.declared.Kind.{Kind}
 use Rattle.rules.specs.declared.Kind.the-variants.{Sag, Interruption, Swell}
 use Rattle.rules.specs.declared.Event.{Event}
 use Rattle.rules.proofs.Booleans.{both, not-both}
-
--- ---- what is said of the list
-
--- the start is smaller, or the starts are equal and the kind is smaller
-abbrev pub earlier : Event → Event → Bool
-earlier x y = ltb (x .start) (y .start) || (eqb (x .start) (y .start) && ltb (x .kind) (y .kind))
-
--- every one of the list
-abbrev pub every : {A : Type 0} → (A → Bool) → List A → Bool
-every p [] = true
-every p (x ∷ xs) = p x && every p xs
-
--- each is earlier than all that come after it
-abbrev pub sorted : List Event → Bool
-sorted [] = true
-sorted (e ∷ es) = every (earlier e) es && sorted es
 
 -- ---- lists in order
 

@@ -11,12 +11,8 @@ use lib.Dec.{leb}
 use Rattle.rules.specs.declared.Settings.{Settings}
 use Rattle.rules.specs.Halves.{full, below}
 use Rattle.rules.specs.Events.{fits, climb, retainedOf}
+use Rattle.rules.specs.Demands.{IsRetained}
 use Rattle.rules.proofs.Ranges.{Good, full-low, full-least}
-
--- r is the retained value of S, with m for N x R x R: the largest whole number with r x r x m at most 1,000,000 x S
-pub record IsRetained (m S r : ℕ) : Type 0 where
-  pub fits : r * r * m ≤ 1000000 * S
-  pub largest : (w : ℕ) → w * w * m ≤ 1000000 * S → w ≤ r
 
 pub retained-unique : (m S a b : ℕ) → IsRetained m S a → IsRetained m S b → a ≡ b
 retained-unique m S a b p q = le-antisymm (q .largest a (p .fits)) (p .largest b (q .fits))

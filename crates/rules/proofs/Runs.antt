@@ -12,6 +12,7 @@ use lib.Dec.{ltb}
 use Rattle.rules.specs.Bounded.{any, all, before, firstNot}
 use Rattle.rules.specs.Halves.{known}
 use Rattle.rules.specs.Events.{begins, ends, carries, inRun, inEvent}
+use Rattle.rules.specs.Demands.{goesOn}
 use Rattle.rules.specs.declared.Settings.{Settings}
 use Rattle.rules.specs.declared.Half.{Half}
 use Rattle.rules.specs.declared.Kind.{Kind}
@@ -80,10 +81,6 @@ module _ (begins known ends : ℕ → Bool) where
         carries-here (suc k),
       )
       (shape (any (carries begins known ends k) (suc k)) (begins (suc k)) (known (suc k)) (ends (suc k)))
-
--- whether half-cycle v is in an event, where `inside` says it of the one before
-abbrev pub goesOn : Settings → Kind → Bool → Half → Bool
-goesOn s kind inside v = known v && (begins s kind v || (inside && not (ends s kind v)))
 
 pub in-next : (s : Settings) (h : ℕ → Half) (kind : Kind) (k : ℕ)
     → inEvent s h kind k ≡ goesOn s kind (before (inEvent s h kind) k) (h k)

@@ -55,7 +55,7 @@ first-found p n = by (all p n) (ltb (firstNot p 0 n) n) refl refl
 
 -- ---- an accepted recording: what its check says
 
-pub record Accepts (s : Settings) (xs : List ℤ) : Type 0 where
+pub record AcceptedRecording (s : Settings) (xs : List ℤ) : Type 0 where
   pub threes : length xs % 3 ≡ 0
   pub enough : s .n ≤ samplesOf xs
   pub even : samplesOf xs % (s .n / 2) ≡ 0
@@ -75,9 +75,9 @@ none-bad : (xs : List ℤ) → length xs ≤ firstBad xs → (i : ℕ) → i < l
 unfolding firstBad
 none-bad xs h i l = first-between (λ i. inRange (getD xs i (pos 0))) 0 (length xs) i (omega arith) (omega arith)
 
-pub accepts : (s : Settings) (xs : List ℤ) → recordingCheck s xs ≡ Accepted → Accepts s xs
+pub accepted-recording : (s : Settings) (xs : List ℤ) → recordingCheck s xs ≡ Accepted → AcceptedRecording s xs
 unfolding recordingCheck
-accepts s xs h =
+accepted-recording s xs h =
     let two = goes-on (not (eqb (length xs % 3) 0)) Uneven _ h in
     let three = goes-on (ltb (samplesOf xs) (s .n)) Short _ (two .1) in
     let four = goes-on (not (eqb (samplesOf xs % (s .n / 2)) 0)) Ragged _ (three .1) in
@@ -93,7 +93,7 @@ accepts s xs h =
 
 -- ---- the window of a half-cycle that exists lies within the run
 
-pub window-fits : (s : Settings) (xs : List ℤ) → Good s → Accepts s xs → (k : ℕ) → k < halvesOf s xs → 3 * begin s k + 3 * s .n ≤ length xs
+pub window-fits : (s : Settings) (xs : List ℤ) → Good s → AcceptedRecording s xs → (k : ℕ) → k < halvesOf s xs → 3 * begin s k + 3 * s .n ≤ length xs
 unfolding halvesOf
 window-fits s xs g a k l =
     let n = s .n in
@@ -136,7 +136,7 @@ low x r m = leb-true (natAbs x) 100000 (rw m at r)
 pub square-low : (x : ℤ) → natAbs x ≤ 100000 → square x ≤ 10000000000
 square-low x h = mul-le-mul h h
 
-module _ (s : Settings) (xs : List ℤ) (g : Good s) (a : Accepts s xs) (k : ℕ) (exists : k < halvesOf s xs) (whole : anyMissing s xs k ≡ false) where
+module _ (s : Settings) (xs : List ℤ) (g : Good s) (a : AcceptedRecording s xs) (k : ℕ) (exists : k < halvesOf s xs) (whole : anyMissing s xs k ≡ false) where
   pub present : (i c : ℕ) → i < s .n → c < 3 → missing (sampleAt xs c (begin s k + i)) ≡ false
   unfolding anyMissing
   present i c l m =
@@ -155,7 +155,7 @@ module _ (s : Settings) (xs : List ℤ) (g : Good s) (a : Accepts s xs) (k : ℕ
       sum-le (λ i. square (sampleAt xs c (begin s k + i))) 10000000000 (s .n)
       (λ i l. square-low (sampleAt xs c (begin s k + i)) (sample-low i c l m))
 
-pub sums-low : (s : Settings) (xs : List ℤ) → Good s → Accepts s xs → (k : ℕ) (v : Sums) → halfAt s xs k ≡ Known v → (v .a ≤ s .n * 10000000000) × (v .b ≤ s .n * 10000000000) × (v .c ≤ s .n * 10000000000)
+pub sums-low : (s : Settings) (xs : List ℤ) → Good s → AcceptedRecording s xs → (k : ℕ) (v : Sums) → halfAt s xs k ≡ Known v → (v .a ≤ s .n * 10000000000) × (v .b ≤ s .n * 10000000000) × (v .c ≤ s .n * 10000000000)
 unfolding sumsAt
 sums-low s xs g a k v h =
     let p = knows s xs k v h in

@@ -11,6 +11,7 @@ use Rattle.rules.specs.Recorder.{within, settingsGood}
 use Rattle.rules.specs.Halves.{full, below}
 use Rattle.rules.specs.Events.{retainedOf}
 use Rattle.rules.specs.Scores.{inBounds, isSag, sagGood, otherGood, isEvent, unseenOf, reasonOf}
+use Rattle.rules.specs.Demands.{Scorable}
 use Rattle.rules.proofs.Booleans.{both}
 use Rattle.rules.proofs.Ranges.{good, full-least}
 use Rattle.rules.proofs.Retained.{retained-below}
@@ -64,13 +65,6 @@ unseen-is (suc (suc (suc zero))) h = refl
 unseen-is (suc (suc (suc (suc k)))) h = absurd (omega arith)
 
 -- ---- no reason
-
--- exactly this: settings good, an event, a sag, both ends seen
-pub record Scorable (s : Settings) (e : Event) : Type 0 where
-  pub settings : settingsGood s ≡ true
-  pub event : isEvent s e ≡ true
-  pub sag : isSag e ≡ true
-  pub seen : e .seen ≡ 3
 
 no-reason : (good event sag : Bool) (unseen : ℕ)
     → cond (not good) 6 (cond (not event) 5 (cond (not sag) 4 unseen)) ≡ 0

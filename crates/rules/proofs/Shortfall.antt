@@ -73,12 +73,12 @@ module _ (p : ℕ → Bool) (f : ℕ → ℕ) (n : ℕ) where
   rest-end = rw (first-end p n n refl) (from-none f n n (omega arith))
 
   -- below m, with what is left of the run that goes on at m
-  below : (m : ℕ) → m ≤ n
+  runs-below : (m : ℕ) → m ≤ n
       → sum (λ a. cond (isStart p a) (rest a) 0) m ≡ sum (λ k. cond (p k) (f k) 0) m + cond (before p m) (rest m) 0
-  below zero l = refl
-  below (suc m) l =
+  runs-below zero l = refl
+  runs-below (suc m) l =
       turn (p m) (before p m) (sum (λ a. cond (isStart p a) (rest a) 0) m) (sum (λ k. cond (p k) (f k) 0) m) (rest m) (f m) (rest (suc m))
-      (rest-go m l) (rest-stop m l) (below m (omega arith))
+      (rest-go m l) (rest-stop m l) (runs-below m (omega arith))
 
   none-left : (b : Bool) → cond b (rest n) 0 ≡ 0
   none-left true = rest-end
@@ -86,7 +86,7 @@ module _ (p : ℕ → Bool) (f : ℕ → ℕ) (n : ℕ) where
 
   -- THE LAW: the runs hold what passes, each number once
   pub runs-hold : sum (λ a. cond (isStart p a) (sumFrom f a (firstNot p a (n - a))) 0) n ≡ sum (λ k. cond (p k) (f k) 0) n
-  runs-hold = omega (arith, below n (omega arith), none-left (before p n))
+  runs-hold = omega (arith, runs-below n (omega arith), none-left (before p n))
 
 -- ---- channel by channel
 

@@ -7,4 +7,5 @@ pub mod EventList
 pub mod Scores
 pub mod Site
 pub mod Refusals
+pub mod Demands
 pub mod Known

@@ -73,8 +73,8 @@ module _ (passed : ℕ → Bool) (bs : List ℕ) (i : ℕ) where
   pub place-goes : i < length bs → passed (getD bs i 0) ≡ true → placeOf passed (drop i bs) ≡ suc (placeOf passed (drop (i + 1) bs))
   place-goes h e = rw (drop-cons bs i 0 h, e, add-one)
 
-  pub place-stops : i < length bs → passed (getD bs i 0) ≡ false → placeOf passed (drop i bs) ≡ 0
-  place-stops h e = rw (drop-cons bs i 0 h, e)
+  pub place-here : i < length bs → passed (getD bs i 0) ≡ false → placeOf passed (drop i bs) ≡ 0
+  place-here h e = rw (drop-cons bs i 0 h, e)
 
   pub place-ends : length bs ≤ i → placeOf passed (drop i bs) ≡ 0
   place-ends h = rw (drop-of-length-le bs h)

@@ -111,8 +111,8 @@ module _ (t : Table) where
   pub places-bad : eqb (total (t .cells) + t .unplaced) (t .sags) ≡ false → true ≡ isUnsound t
   places-bad e = unsound-when (λ s. eqb-false (total (t .cells) + t .unplaced) (t .sags) e (s .places))
 
-  pub short-high : settingsGood (t .settings) ≡ true → t .total ≤ 4000000 → 3 * full (t .settings) * t .total ≤ 15360000000000000000
-  short-high g l =
+  pub product-high : settingsGood (t .settings) ≡ true → t .total ≤ 4000000 → 3 * full (t .settings) * t .total ≤ 15360000000000000000
+  product-high g l =
       let three : 3 * full (t .settings) ≤ 3840000000000 = omega (arith, full-high (t .settings) (good (t .settings) g)) in mul-le-mul three l
 
   pub shortfall-tells : settingsGood (t .settings) ≡ true → t .total ≤ 4000000 → CountsFine → eqb (t .healthy + t .disturbed + t .unknown) (t .total) ≡ true

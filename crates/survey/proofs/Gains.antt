@@ -22,7 +22,7 @@ use Rattle.rules.proofs.Choices.{lower}
 use Rattle.rules.proofs.Longest.{in-past, half-past}
 use Rattle.rules.proofs.Borders.{sag-cell-high}
 use Rattle.rules.proofs.Ranges.{Good, full-high}
-use Rattle.rules.proofs.Samples.{Accepts}
+use Rattle.rules.proofs.Samples.{AcceptedRecording}
 use Rattle.rules.proofs.Shortfall.{shortfalls-agree}
 use Rattle.rules.proofs.DemandThree.{cells-length, cells-at, sag-short-high}
 use Rattle.rules.specs.declared.Settings.{Settings}
@@ -216,7 +216,7 @@ module _ (s : Settings) (xs : List ℤ) where
   unfolding cellsAt
   cells-all = cells-same _ _ placed-all (replicate cells 0) 0
 
-  pub shortfall-low : Good s → Accepts s xs → (k : ℕ) → k ≤ n → landedAt s h n k .shortfall ≤ 3000000000000000000
+  pub shortfall-low : Good s → AcceptedRecording s xs → (k : ℕ) → k ≤ n → landedAt s h n k .shortfall ≤ 3000000000000000000
   unfolding landedAt
   shortfall-low g ok k l =
       let a = landed-below s h n (half-past s xs) Sag (shortfallFrom s h n) k in

@@ -16,7 +16,7 @@ use Rattle.rules.specs.Refusals.{recordingCheck}
 use Rattle.rules.proofs.Bounded.{count-le}
 use Rattle.rules.proofs.Longest.{in-past, half-past}
 use Rattle.rules.proofs.Ranges.{Good, good}
-use Rattle.rules.proofs.Samples.{Accepts, accepts}
+use Rattle.rules.proofs.Samples.{AcceptedRecording, accepted-recording}
 use Rattle.rules.specs.declared.Settings.{Settings}
 use Rattle.rules.specs.declared.Half.{Half}
 use Rattle.rules.specs.declared.Kind.the-variants.{Sag, Interruption, Swell}
@@ -29,10 +29,9 @@ use Rattle.survey.specs.declared.Classes.{Classes}
 use Rattle.survey.specs.declared.Starts.{Starts}
 use Rattle.survey.specs.declared.Landed.{Landed}
 use Rattle.survey.specs.declared.Survey.{Survey}
-use Rattle.kinds.specs.Machine.{levelOf, opens, Light}
+use Rattle.kinds.specs.Machine.{levelOf, opens, Going, Light}
 use Rattle.survey.specs.Pass.{trackedBy, classedBy, startedBy, landedBy, cellsBy, Landable, Surveying, trackAt, coveredAt, classesAt, startsAt, landed, landedAt, cellsAt, surveyAt, resting, startSurvey}
-use Rattle.kinds.proofs.Machine.{known-is, inside-is, opens-closed}
-use Rattle.kinds.proofs.Going.{Going}
+use Rattle.kinds.proofs.Machine.{level-known, inside-is, opens-closed}
 use Rattle.kinds.proofs.Limits.{opens-light, level-light, extreme-low}
 use Rattle.survey.proofs.Surveys.{track-next, classes-next, starts-next, lands, landing, landed-at-next}
 use Rattle.survey.proofs.Gains.{cells-next, unplaced-few, stray-few, cells-few, shortfall-low, unplaced-all, stray-all, shortfall-all, cells-all}
@@ -47,8 +46,8 @@ module _ (s : Settings) (xs : List ℤ) (good-settings : settingsGood s ≡ true
   g : Good s
   g = good s good-settings
 
-  ok : Accepts s xs
-  ok = accepts s xs accepted
+  ok : AcceptedRecording s xs
+  ok = accepted-recording s xs accepted
 
   -- ---- what the calls ask
 
@@ -172,7 +171,7 @@ module _ (s : Settings) (xs : List ℤ) (m : Thresholds) (halves k : ℕ) (p : S
   are = parts s xs (v .good-settings) (v .accepted) k p (v .state)
 
   known-here : l .known ≡ known (halfAt s xs k)
-  known-here = rw l-is (known-is s (halfAt s xs k))
+  known-here = rw l-is (level-known s (halfAt s xs k))
 
   pub ask-follow : Light (p .track .sag .short) × Light (l .short)
   ask-follow = rw (l-is, are .track) (follow-ready s xs (v .good-settings) (v .accepted) k inside)

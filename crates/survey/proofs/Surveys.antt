@@ -22,10 +22,10 @@ use Rattle.rules.specs.declared.Kind.the-variants.{Sag, Interruption, Swell}
 use Rattle.kinds.specs.declared.Open.{Open}
 use Rattle.survey.specs.declared.Track.{Track}
 use Rattle.survey.specs.declared.Landed.{Landed}
-use Rattle.kinds.specs.Machine.{thresholdsOf, levelOf, opens}
+use Rattle.kinds.specs.Machine.{thresholdsOf, levelOf, opens, Going}
 use Rattle.survey.specs.Pass.{trackedBy, classedBy, startedBy, landedBy, landed, coveredAt, trackAt, classesAt, startsAt, seenBoth, shortfallFrom, strayFrom, landedAt}
-use Rattle.kinds.proofs.Machine.{goes-here, known-is, inside-is, opens-lasts, opens-launches}
-use Rattle.kinds.proofs.Going.{Going, going, ends-here}
+use Rattle.kinds.proofs.Machine.{goes-here, level-known, inside-is, opens-lasts, opens-launches}
+use Rattle.kinds.proofs.Going.{open-is-going, ends-here}
 
 same-track : {a b c d e f i j : Bool} {o p : Open} → a ≡ b → o ≡ p → c ≡ d → e ≡ f → i ≡ j
     → _≡_ {A = Track} (record { known = a; sag = o; interruption = c; covered = e; swell = i }) (record { known = b; sag = p; interruption = d; covered = f; swell = j })
@@ -49,7 +49,7 @@ module _ (s : Settings) (h : ℕ → Half) where
   pub track-next : (k : ℕ) → trackedBy (thresholdsOf s) k (trackAt s h k) (levelOf s (h k)) ≡ trackAt s h (suc k)
   unfolding trackedBy trackAt coveredAt opens
   track-next k =
-      same-track (known-is s (h k)) refl (goes-here s h Interruption k) (covers (coveredAt s h k) (goes-here s h Interruption k) (inside-is s h Sag (suc k))) (goes-here s h Swell k)
+      same-track (level-known s (h k)) refl (goes-here s h Interruption k) (covers (coveredAt s h k) (goes-here s h Interruption k) (inside-is s h Sag (suc k))) (goes-here s h Swell k)
     where
       covers : (c : Bool) {i j x y : Bool} → i ≡ j → x ≡ y → not i || (c && x) ≡ not j || (c && y)
       covers c e f = rw (e, f)
@@ -118,7 +118,7 @@ module _ (s : Settings) (h : ℕ → Half) where
       ⊎-elim
       (λ w.
       let o : opens s h Interruption k .inside ≡ true = inside-is s h Interruption k ∙ w in
-      rw (opens-lasts s h Interruption k i o, i, covered-is k w, le-ltb k (opens s h Interruption k .start) (omega (arith, going s h Interruption k o .started))))
+      rw (opens-lasts s h Interruption k i o, i, covered-is k w, le-ltb k (opens s h Interruption k .start) (omega (arith, open-is-going s h Interruption k o .started))))
       (λ w.
       let o : opens s h Interruption k .inside ≡ false = inside-is s h Interruption k ∙ w in
       rw (
@@ -139,7 +139,7 @@ module _ (s : Settings) (h : ℕ → Half) where
 
     module _ (kind : Kind) (k : ℕ) (high : k ≤ n) (yes-lands : lands kind k ≡ true) where
       pub landing : Going s h kind k (opens s h kind k)
-      landing = going s h kind k (inside-is s h kind k ∙ both (before (inEvent s h kind) k) (not (inEvent s h kind k)) yes-lands .0)
+      landing = open-is-going s h kind k (inside-is s h kind k ∙ both (before (inEvent s h kind) k) (not (inEvent s h kind k)) yes-lands .0)
 
       pub lands-at : endOf s h n kind (opens s h kind k .start) ≡ k
       lands-at =

@@ -78,8 +78,8 @@ past-count xs c at l =
     ⊎-elim (no-channel xs c at) (not-held xs c at) (count-high (length xs) c at (leb c 2) (ltb c (length xs % 3)) refl refl l)
 
 -- on a ragged run too, each channel is judged by its own count
-pub judged : (xs : List ℤ) (c at : ℕ) → holds xs c at ≡ ltb at (countOf (length xs) c)
-judged xs c at = go (ltb at (countOf (length xs) c)) refl
+pub channel-by-its-count : (xs : List ℤ) (c at : ℕ) → holds xs c at ≡ ltb at (countOf (length xs) c)
+channel-by-its-count xs c at = go (ltb at (countOf (length xs) c)) refl
   where
     go : (b : Bool) → ltb at (countOf (length xs) c) ≡ b → holds xs c at ≡ b
     go true p = let h = below-count (length xs) c at (ltb-true at (countOf (length xs) c) p) in held xs c at (h .0) (h .1)

@@ -1,3 +1,2 @@
 -- What follows from the definitions alone.
 pub mod Laws
-pub mod Known

@@ -1,2 +1,3 @@
--- What a view of one channel gives.
+-- What a view of one channel gives, and known answers of it.
 pub mod Channel
+pub mod Known

@@ -7,7 +7,7 @@ use lib.ListN.{length}
 use Rattle.rules.specs.Halves.{begin}
 use Rattle.rules.proofs.Ranges.{good}
 use Rattle.rules.proofs.Longest.{half-past}
-use Rattle.rules.proofs.Samples.{accepts, window-fits}
+use Rattle.rules.proofs.Samples.{accepted-recording, window-fits}
 use Rattle.halves.specs.Windows.{halfIn}
 use Rattle.halves.proofs.Windows.{window-few, window-ranged, window-half}
 use Rattle.halves.proofs.half_at.Statement.{statement}
@@ -17,7 +17,7 @@ inside : (c : tie.Else1) → let a = c .before .args in 3 * begin (a .s) (a .k) 
 inside c =
     let a = c .before .args in
     let xs = now (a .samples) in
-    window-fits (a .s) xs (good (a .s) (c .before .pre .0)) (accepts (a .s) xs (c .before .pre .1)) (a .k) (omega arith)
+    window-fits (a .s) xs (good (a .s) (c .before .pre .0)) (accepted-recording (a .s) xs (c .before .pre .1)) (a .k) (omega arith)
 
 returns : tie.Need-returns
 returns c =
@@ -34,7 +34,7 @@ half-of-requires c κs =
     let xs = now (a .samples) in
     rw (c .window-at .ensures) (
       window-few (a .s) xs (a .k) (inside (c .before)) (good (a .s) (start .pre .0)),
-      window-ranged (a .s) xs (a .k) (inside (c .before)) (accepts (a .s) xs (start .pre .1) .in-range),
+      window-ranged (a .s) xs (a .k) (inside (c .before)) (accepted-recording (a .s) xs (start .pre .1) .in-range),
     )
 
 returns-2 : tie.Need-returns-2

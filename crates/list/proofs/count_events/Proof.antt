@@ -6,7 +6,7 @@ use native.Mathlib.Omega.{arith}
 use denote.Ref.{now}
 use Rattle.rules.specs.Halves.{halfAt, halvesOf}
 use Rattle.rules.proofs.Ranges.{good}
-use Rattle.rules.proofs.Samples.{accepts}
+use Rattle.rules.proofs.Samples.{accepted-recording}
 use Rattle.list.specs.declared.Tally.{Tally}
 use Rattle.list.specs.Listing.{tallyOf}
 use Rattle.kinds.proofs.Limits.{marked, few-half}
@@ -31,7 +31,7 @@ count-turn-requires : tie.Need-count-turn-requires Inv-loop μ-loop
 count-turn-requires c κs =
     let s = c .before .before .before in
     let g = good _ (s .pre .0) in
-    let ok = accepts _ _ (s .pre .1) in (
+    let ok = accepted-recording _ _ (s .pre .1) in (
       rw (s .pre .3) (marked _ g),
       rw (c .half-at .ensures) (few-half _ _ g ok _),
       rw (c .before .before .loop .inv .1)

@@ -7,7 +7,7 @@ use denote.Ref.{now}
 use lib.ListN.{length}
 use Rattle.rules.specs.Halves.{halfAt}
 use Rattle.rules.proofs.Ranges.{good}
-use Rattle.rules.proofs.Samples.{accepts}
+use Rattle.rules.proofs.Samples.{accepted-recording}
 use Rattle.kinds.specs.declared.Thresholds.{Thresholds}
 use Rattle.kinds.specs.Machine.{levelOf}
 use Rattle.kinds.proofs.Machine.{level-is}
@@ -53,7 +53,7 @@ level-at-requires c κs =
     let s = c .before .before .before in
     let g = good _ (s .pre .0) in (
       rw (s .pre .3) (marked _ g),
-      rw (c .half-at .ensures) (few-half _ _ g (accepts _ _ (s .pre .1)) _),
+      rw (c .half-at .ensures) (few-half _ _ g (accepted-recording _ _ (s .pre .1)) _),
     )
 
 visit-requires : tie.Need-visit-requires

@@ -9,7 +9,7 @@ use borrow.Author.Needs.{needs}
 use denote.Ref.{now}
 use lib.ListN.{length}
 use Rattle.rules.specs.Halves.{halvesOf}
-use Rattle.rules.proofs.Samples.{accepts}
+use Rattle.rules.proofs.Samples.{accepted-recording}
 use Rattle.list.proofs.Writing.{Writing, writing-start, writing-next, writing-ready, writing-done, wordsBelow, below-fits}
 use Rattle.list.proofs.write_events.Statement.{statement}
 use Rattle.list.proofs.write_events.Tie as tie
@@ -44,7 +44,7 @@ add-k : tie.Need-add-k Inv-loop μ-loop
 add-k c =
     let test = c .before .before .before .before in
     let p = test .before .before .before .before .pre in
-    omega (arith, p .2, accepts _ _ (p .1) .few, test .loop-test .taken)
+    omega (arith, p .2, accepted-recording _ _ (p .1) .few, test .loop-test .taken)
 
 loop-less : tie.Need-loop-less Inv-loop μ-loop
 loop-less c = search needs

@@ -42,17 +42,17 @@ write-all-requires : tie.Need-write-all-requires
 write-all-requires c κs = search needs
 
 -- what is printed below 0
-below : (c : tie.After-write-all) → let x = c .before .before .before .args .x in let f = c .before .before .before .fits .x in (n : ℕ) × ((pos 0 -ℤ wide x f ≡ pos n) × (n < 2 ^ 63))
-below c =
+negated : (c : tie.After-write-all) → let x = c .before .before .before .args .x in let f = c .before .before .before .fits .x in (n : ℕ) × ((pos 0 -ℤ wide x f ≡ pos n) × (n < 2 ^ 63))
+negated c =
     let x = c .before .before .before .args .x in let f = c .before .before .before .fits .x in
     let t = turned x (f .sfits) (rw (wide-is x f) at (c .before .before .if1 .taken)) in (t .0, (ap (λ (y : ℤ). pos 0 -ℤ y) (wide-is x f) ∙ t .1 .0, t .1 .1))
 
 sub-print-decimal : tie.Need-sub-print-decimal
-sub-print-decimal c = let t = below c in subst (SFits w64) (sym (t .1 .0)) (record { sfits = t .1 .1 })
+sub-print-decimal c = let t = negated c in subst (SFits w64) (sym (t .1 .0)) (record { sfits = t .1 .1 })
 
 cast-print-decimal : tie.Need-cast-print-decimal
 cast-print-decimal c =
-    let t = below c in
+    let t = negated c in
     subst (λ (y : ℤ). T (nonNeg y) × Fits w64 (natAbs y)) (sym (ap (λ (y : ℤ). toZ w64 (ofZ w64 y)) (t .1 .0) ∙ toZ-ofZ {w = w64} {z = pos (t .0)} (record { sfits = t .1 .1 })))
     (tt, record { fits = omega arith })
 

@@ -7,7 +7,7 @@ use lib.ListN.{length}
 use Rattle.rules.specs.Halves.{begin, sumsAt}
 use Rattle.rules.specs.Events.{typeOf}
 use Rattle.rules.proofs.Ranges.{good}
-use Rattle.rules.proofs.Samples.{accepts, window-fits, Knows, knows, known-is}
+use Rattle.rules.proofs.Samples.{accepted-recording, window-fits, Knows, knows, known-is}
 use Rattle.halves.specs.Windows.{window, Low}
 use Rattle.sag_type.specs.Six.{sixIn}
 use Rattle.halves.proofs.Windows.{window-few, window-ranged, window-missing, low-window}
@@ -25,7 +25,7 @@ inside : (c : tie.Start) → let a = c .args in 3 * begin (a .s) (a .k) + 3 * a 
 inside c =
     let a = c .args in
     let xs = now (a .samples) in
-    window-fits (a .s) xs (good (a .s) (c .pre .0)) (accepts (a .s) xs (c .pre .1)) (a .k) (is-known c .exists)
+    window-fits (a .s) xs (good (a .s) (c .pre .0)) (accepted-recording (a .s) xs (c .pre .1)) (a .k) (is-known c .exists)
 
 few : (c : tie.Start) → let a = c .args in length (window (a .s) (now (a .samples)) (a .k)) ≤ 1536
 few c = let a = c .args in window-few (a .s) (now (a .samples)) (a .k) (inside c) (good (a .s) (c .pre .0))
@@ -35,7 +35,7 @@ is-low c =
     let a = c .args in
     let xs = now (a .samples) in
     low-window (window (a .s) xs (a .k))
-    (window-ranged (a .s) xs (a .k) (inside c) (accepts (a .s) xs (c .pre .1) .in-range))
+    (window-ranged (a .s) xs (a .k) (inside c) (accepted-recording (a .s) xs (c .pre .1) .in-range))
     (window-missing (a .s) xs (a .k) (inside c) ∙ is-known c .whole)
 
 window-at-requires : tie.Need-window-at-requires

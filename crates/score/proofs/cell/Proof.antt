@@ -4,7 +4,8 @@ use native.Mathlib.Omega.{arith}
 use borrow.Author.Needs.{needs}
 use borrow.Author.Tests.{eq-eqb, ne-eqb}
 use Rattle.rules.specs.Site.{cellOf}
-use Rattle.rules.proofs.Scorable.{InBounds, event-bounds, Scorable, scorable}
+use Rattle.rules.specs.Demands.{Scorable}
+use Rattle.rules.proofs.Scorable.{InBounds, event-bounds, scorable}
 use Rattle.score.proofs.cell.Statement.{statement}
 use Rattle.score.proofs.cell.Tie as tie
 

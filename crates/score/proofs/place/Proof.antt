@@ -7,7 +7,7 @@ use borrow.Author.Needs.{needs}
 use lib.Dec.{ltb}
 use lib.ListN.{length, drop}
 use Rattle.rules.specs.Site.{placeOf}
-use Rattle.score.proofs.Laws.{place-goes, place-stops, place-ends}
+use Rattle.score.proofs.Laws.{place-goes, place-here, place-ends}
 use Rattle.score.proofs.place.Statement.{statement}
 use Rattle.score.proofs.place.Tie as tie
 
@@ -43,7 +43,7 @@ loop-again c =
 returns : tie.Need-returns Inv-loop μ-loop
 returns c =
     let s = c .before .before .before in
-    omega (arith, place-stops (λ b. ltb b (s .before .args .x)) (s .before .args .borders .now) (s .loop .i) (c .before .before .loop-test .taken) (c .if1 .left))
+    omega (arith, place-here (λ b. ltb b (s .before .args .x)) (s .before .args .borders .now) (s .loop .i) (c .before .before .loop-test .taken) (c .if1 .left))
 
 returns-2 : tie.Need-returns-2 Inv-loop μ-loop
 returns-2 c =

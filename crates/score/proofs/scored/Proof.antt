@@ -2,7 +2,8 @@
 use Prim.Native.Nat.{_-_}
 use native.Mathlib.Omega.{arith}
 use Rattle.rules.proofs.Ranges.{good}
-use Rattle.rules.proofs.Scorable.{InBounds, event-bounds, Scorable, scorable, sag-retained}
+use Rattle.rules.specs.Demands.{Scorable}
+use Rattle.rules.proofs.Scorable.{InBounds, event-bounds, scorable, sag-retained}
 use Rattle.score.proofs.Laws.{curve-high}
 use Rattle.score.proofs.scored.Statement.{statement}
 use Rattle.score.proofs.scored.Tie as tie

@@ -9,7 +9,7 @@ use lib.Dec.{eqb}
 use Rattle.rules.specs.Recorder.{settingsGood}
 use Rattle.rules.specs.Site.{total}
 use Rattle.rules.proofs.Ranges.{good, full-high}
-use Rattle.site.proofs.Counts.{settings-bad, settings-fine, total-bad, counts-bad, CountsFine, counts-fine, classes-bad, places-bad, short-high, shortfall-tells}
+use Rattle.site.proofs.Counts.{settings-bad, settings-fine, total-bad, counts-bad, CountsFine, counts-fine, classes-bad, places-bad, product-high, shortfall-tells}
 use borrow.Author.Needs.{needs}
 use Rattle.site.proofs.is_unsound.Statement.{statement}
 use Rattle.site.proofs.is_unsound.Tie as tie
@@ -61,7 +61,7 @@ mul-result : tie.Need-mul-result
 mul-result c = omega (arith, c .full-of .ensures, full-high _ (good _ (fine (c .before .before .before .before .before .before .before .before .before .before .before .before))))
 
 mul-result-2 : tie.Need-mul-result-2
-mul-result-2 c = rw (c .before .full-of .ensures) (omega (arith, short-high (c .before .before .before .before .before .before .before .before .before .before .before .before .before .before .before .before .before .args .t) (fine (c .before .before .before .before .before .before .before .before .before .before .before .before .before)) (few (c .before .before .before .before .before .before .before .before .before .before .before))))
+mul-result-2 c = rw (c .before .full-of .ensures) (omega (arith, product-high (c .before .before .before .before .before .before .before .before .before .before .before .before .before .before .before .before .before .args .t) (fine (c .before .before .before .before .before .before .before .before .before .before .before .before .before)) (few (c .before .before .before .before .before .before .before .before .before .before .before))))
 
 returns-6 : tie.Need-returns-6
 returns-6 c = rw (c .before .before .full-of .ensures) (shortfall-tells (c .before .before .before .before .before .before .before .before .before .before .before .before .before .before .before .before .before .before .args .t) (fine (c .before .before .before .before .before .before .before .before .before .before .before .before .before .before)) (few (c .before .before .before .before .before .before .before .before .before .before .before .before)) (counted (c .before .before .before .before .before .before .before)) (classed (c .before .before .before .before .before)) (placed (c .before .before .before)))

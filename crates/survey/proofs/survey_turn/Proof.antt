@@ -3,7 +3,7 @@ use mathlib.Core.Path.{_≡_}
 use denote.Ref.{now}
 use Rattle.rules.specs.Halves.{halfAt}
 use Rattle.rules.proofs.Ranges.{good}
-use Rattle.rules.proofs.Samples.{accepts}
+use Rattle.rules.proofs.Samples.{accepted-recording}
 use Rattle.kinds.specs.Machine.{levelOf}
 use Rattle.kinds.proofs.Machine.{level-is}
 use Rattle.kinds.proofs.Limits.{marked, few-half}
@@ -30,7 +30,7 @@ level-at-requires : tie.Need-level-at-requires
 level-at-requires c κs =
     let v = c .before .before .pre in
     let g = good _ (v .good-settings) in
-    (rw (v .thresholds) (marked _ g), rw (c .half-at .ensures) (few-half _ _ g (accepts _ _ (v .accepted)) _))
+    (rw (v .thresholds) (marked _ g), rw (c .half-at .ensures) (few-half _ _ g (accepted-recording _ _ (v .accepted)) _))
 
 follow-requires : tie.Need-follow-requires
 follow-requires c κs = let l = c .before in ask-follow _ _ _ _ _ _ _ (start l .pre) _ (is-level l)

@@ -1,0 +1,121 @@
+-- What the theorems of the three demands, and the laws that docs/STATEMENTS.md names beside them, speak of besides the rules: a list in
+-- order, what has a score, the largest whole number, places among borders, and recordings offered to a table one after the other.
+use Prim.Native.Nat.{ℕ, suc, _+_, _-_, _*_, _≤_, _<_}
+use mathlib.Core.Path.{_≡_}
+use mathlib.Core.Bool.{Bool, true, not, _&&_, _||_, cond}
+use mathlib.Core.List.{List, [], _∷_}
+use lib.Dec.{leb, ltb, eqb}
+use lib.IntN.{ℤ}
+use lib.ListN.{length, getD}
+use Rattle.rules.specs.Bounded.{all, count}
+use Rattle.rules.specs.Recorder.{settingsGood}
+use Rattle.rules.specs.Halves.{halfAt, halvesOf, known}
+use Rattle.rules.specs.Events.{begins, ends, starts}
+use Rattle.rules.specs.Scores.{isSag, isEvent}
+use Rattle.rules.specs.Site.{isHealthy, isDisturbed, isUnknown, isPlaced, isUnplaced, sagCell, isStray, sagShort, cells, mostHalves}
+use Rattle.rules.specs.Refusals.{recordingCheck, byCheck, andThen, addCheck, added}
+use Rattle.rules.specs.declared.Settings.{Settings}
+use Rattle.rules.specs.declared.Half.{Half}
+use Rattle.rules.specs.declared.Kind.{Kind}
+use Rattle.rules.specs.declared.Kind.the-variants.{Sag, Interruption, Swell}
+use Rattle.rules.specs.declared.Event.{Event}
+use Rattle.rules.specs.declared.Table.{Table}
+use Rattle.rules.specs.declared.Refusal.the-variants.{Full}
+use Rattle.rules.specs.declared.Taken.{Taken}
+use Rattle.rules.specs.declared.Taken.the-variants.{Accepted, Refused}
+
+-- ---- Demand 2: in an event, told by the half-cycle before; a list in order; what has a score
+
+-- whether half-cycle v is in an event, where `inside` says it of the one before
+abbrev pub goesOn : Settings → Kind → Bool → Half → Bool
+goesOn s kind inside v = known v && (begins s kind v || (inside && not (ends s kind v)))
+
+-- the start is smaller, or the starts are equal and the kind is smaller
+abbrev pub earlier : Event → Event → Bool
+earlier x y = ltb (x .start) (y .start) || (eqb (x .start) (y .start) && ltb (x .kind) (y .kind))
+
+-- every one of the list
+abbrev pub every : {A : Type 0} → (A → Bool) → List A → Bool
+every p [] = true
+every p (x ∷ xs) = p x && every p xs
+
+-- each is earlier than all that come after it
+abbrev pub sorted : List Event → Bool
+sorted [] = true
+sorted (e ∷ es) = every (earlier e) es && sorted es
+
+-- what has no reason against it, and so a score: settings good, an event, a sag, both ends seen
+pub record Scorable (s : Settings) (e : Event) : Type 0 where
+  pub settings : settingsGood s ≡ true
+  pub event : isEvent s e ≡ true
+  pub sag : isSag e ≡ true
+  pub seen : e .seen ≡ 3
+
+-- r is the retained value of S, with m for N x R x R: the largest whole number with r x r x m at most 1,000,000 x S
+pub record IsRetained (m S r : ℕ) : Type 0 where
+  pub fits : r * r * m ≤ 1000000 * S
+  pub largest : (w : ℕ) → w * w * m ≤ 1000000 * S → w ≤ r
+
+-- ---- places among borders
+
+-- each border is below the next
+abbrev pub rising : List ℕ → Bool
+rising bs = all (λ i. ltb (getD bs i 0) (getD bs (suc i) 0)) (length bs - 1)
+
+-- in place i, of which there is one more than borders: border i - 1, where there is one, is passed, and border i, where there is
+-- one, is not
+unfoldable pub liesIn : (ℕ → Bool) → List ℕ → ℕ → Bool
+liesIn passed bs i =
+    leb i (length bs) && (eqb i 0 || passed (getD bs (i - 1) 0)) && (leb (length bs) i || not (passed (getD bs i 0)))
+
+-- a border below a passed one is passed
+abbrev pub Falling : (ℕ → Bool) → Type 0
+Falling passed = (b c : ℕ) → b ≤ c → passed c ≡ true → passed b ≡ true
+
+-- ---- Demand 3: recordings offered in sequence
+
+-- each in turn handed to `added`, and the table taken on
+abbrev pub offer : Table → List (List ℤ) → Table
+offer t [] = t
+offer t (xs ∷ rs) = offer (added t xs .table) rs
+
+-- those that are accepted at their turn
+abbrev pub taken : Table → List (List ℤ) → List (List ℤ)
+taken t [] = []
+taken t (xs ∷ rs) = let rest = taken (added t xs .table) rs in byCheck (addCheck t xs) (xs ∷ rest) (λ r. rest)
+
+-- the same told with no table: s its settings, n the half-cycles so far
+abbrev pub admits : Settings → ℕ → List ℤ → Taken
+admits s n xs = andThen (recordingCheck s xs) (cond (ltb mostHalves (n + halvesOf s xs)) (Refused (Full (mostHalves - n))) Accepted)
+
+abbrev pub admitted : Settings → ℕ → List (List ℤ) → List (List ℤ)
+admitted s n [] = []
+admitted s n (xs ∷ rs) =
+    let more = admitted s (n + halvesOf s xs) rs in
+    let same = admitted s n rs in
+    byCheck (admits s n xs) (xs ∷ more) (λ r. same)
+
+-- the sum of what g gives of each recording
+abbrev pub sumOver : (List ℤ → ℕ) → List (List ℤ) → ℕ
+sumOver g [] = 0
+sumOver g (xs ∷ rs) = g xs + sumOver g rs
+
+-- the sags of a recording that go in cell i
+abbrev pub placedIn : Settings → List ℤ → ℕ → ℕ
+placedIn s xs i = let h = halfAt s xs in let n = halvesOf s xs in count (λ k. isPlaced s h n k && eqb (sagCell s h n k) i) n
+
+-- a table with settings s holds what the recordings add up to: each count its own, each straight from the samples
+pub record SumsUp (s : Settings) (t : Table) (rs : List (List ℤ)) : Type 0 where
+  pub settings : t .settings ≡ s
+  pub total : t .total ≡ sumOver (halvesOf s) rs
+  pub healthy : t .healthy ≡ sumOver (λ xs. count (isHealthy s (halfAt s xs)) (halvesOf s xs)) rs
+  pub disturbed : t .disturbed ≡ sumOver (λ xs. count (isDisturbed s (halfAt s xs)) (halvesOf s xs)) rs
+  pub unknown : t .unknown ≡ sumOver (λ xs. count (isUnknown s (halfAt s xs)) (halvesOf s xs)) rs
+  pub forty : length (t .cells) ≡ cells
+  pub placed : (i : ℕ) → i < cells → getD (t .cells) i 0 ≡ sumOver (λ xs. placedIn s xs i) rs
+  pub unplaced : t .unplaced ≡ sumOver (λ xs. count (isUnplaced s (halfAt s xs) (halvesOf s xs)) (halvesOf s xs)) rs
+  pub sags : t .sags ≡ sumOver (λ xs. count (starts s (halfAt s xs) Sag) (halvesOf s xs)) rs
+  pub interruptions : t .interruptions ≡ sumOver (λ xs. count (starts s (halfAt s xs) Interruption) (halvesOf s xs)) rs
+  pub swells : t .swells ≡ sumOver (λ xs. count (starts s (halfAt s xs) Swell) (halvesOf s xs)) rs
+  pub stray : t .stray ≡ sumOver (λ xs. count (isStray s (halfAt s xs) (halvesOf s xs)) (halvesOf s xs)) rs
+  pub shortfall : t .shortfall ≡ sumOver (sagShort s) rs
