@@ -1,2 +1,3 @@
 -- What follows from the definitions alone.
 pub mod Tables
+pub mod Events

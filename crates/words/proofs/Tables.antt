@@ -12,6 +12,7 @@ use Rattle.rules.specs.declared.Settings.{Settings}
 use Rattle.rules.specs.declared.Table.{Table}
 use Rattle.rules.specs.declared.Refusal.{Refusal}
 use Rattle.rules.specs.declared.Taken.the-variants.{Refused}
+use Rattle.words.specs.Numbers.{settingsFrom}
 use Rattle.words.specs.Words.{tailOf, tableWords, tableFrom}
 
 -- n numbers one by one, from the i-th on
@@ -38,6 +39,12 @@ unfolding tableWords tableFrom
 table-back t h =
     let after : (j : ℕ) → getD (t .cells ++ tailOf t) (40 + j) 0 ≡ getD (tailOf t) j 0 = λ j. rw h at (getD-append-add (t .cells) (tailOf t) j 0) in
     rw (take-at (t .cells) (tailOf t) 40 h, after 0, after 1, after 2, after 3, after 4, after 5)
+
+-- the settings are its first seven numbers
+pub settings-first : (t : Table)
+    → let at : ℕ → ℕ = λ i. getD (tableWords t) i 0 in settingsFrom (at 0) (at 1) (at 2) (at 3) (at 4) (at 5) (at 6) ≡ t .settings
+unfolding tableWords
+settings-first t = refl
 
 -- a refused adding leaves all 57 numbers
 pub refused-leaves : (w : List ℕ) (xs : List ℤ) (r : Refusal) → length w ≡ 57 → added (tableFrom w) xs .answer ≡ Refused r → tableWords (added (tableFrom w) xs .table) ≡ w
