@@ -1,8 +1,9 @@
 //! The gate's comparison of the proved library with the second program, and what it stands on: the linear form agrees with
 //! the naive one, and the drawn cases reach every corner of the rules.
-use oracle::compare::{draw, of_the_oracle, run, Case, Until};
+use oracle::compare::{draw, of_the_oracle, run, Case, Drawn, Report, Until};
 use oracle::{plain, recording, settings, site};
 use std::collections::BTreeSet;
+use std::process::Command;
 
 /// The gate's seed; by hand, `compare --seed` tries others.
 const SEED: u64 = 20_260;
@@ -16,6 +17,37 @@ fn no_difference() {
     assert_eq!(report.cases, 80_000);
 }
 
+/// A block of this case wants four squares that sum to 7 x 4^11, which has so few that the search near the roots misses
+/// them all; a quarter of it, and so on, is a sum that it finds.
+const FEW_SQUARES: (u64, u64) = (777_001, 120_318);
+
+#[test]
+fn a_sum_with_few_squares_is_met() {
+    let (seed, number) = FEW_SQUARES;
+    let report = run(seed, number, Until::Cases(1));
+    assert!(report.difference.is_none());
+    assert_eq!((report.cases, report.near), (1, 0));
+}
+
+#[test]
+fn near_blocks_are_told_before_the_last_line() {
+    let mut report = Report::default();
+    for (number, near) in [(0, 2), (1, 0), (2, 3)] {
+        report.compare(SEED, number, Drawn { near, ..draw(SEED, number) });
+    }
+    assert_eq!(report.to_string(), "5 blocks met their level only nearly\n3 cases, 0 differences");
+}
+
+#[test]
+fn the_program_ends_with_the_report() {
+    let (seed, number) = FEW_SQUARES;
+    let words = ["--seed", &seed.to_string(), "--first", &number.to_string(), "--cases", "3"];
+    let ran = Command::new(env!("CARGO_BIN_EXE_compare")).args(words).output().expect("the program compare");
+    let printed = String::from_utf8_lossy(&ran.stdout);
+    let report = run(seed, number, Until::Cases(3)).to_string();
+    assert!(ran.status.success() && printed.ends_with(&format!("\n{report}\n")), "{printed}");
+}
+
 /// Half-cycles up to which the naive program is quick enough to hold the linear one to it.
 const SHORT: u64 = 400;
 
@@ -23,7 +55,7 @@ const SHORT: u64 = 400;
 fn the_linear_form_agrees_with_the_naive_one() {
     let mut compared = 0;
     for number in 0..10_000 {
-        match draw(SEED + 1, number) {
+        match draw(SEED + 1, number).case {
             Case::List { settings, samples, room } if short(&settings, &samples) => {
                 let (mut naive, mut linear) = (vec![7; room], vec![7; room]);
                 let answers =
@@ -98,7 +130,7 @@ impl Reached {
 fn the_cases_reach_every_corner() {
     let mut reached = Reached::default();
     for number in 0..40_000 {
-        reached.note(&draw(SEED, number));
+        reached.note(&draw(SEED, number).case);
     }
     assert_eq!(reached.list_refusals, BTreeSet::from([0, 1, 2, 3, 4, 5, 6, 7]));
     assert_eq!(reached.add_refusals, BTreeSet::from([0, 2, 3, 4, 5, 6, 8, 9]));

@@ -1,5 +1,6 @@
 //! Compares the proved library with the second program: `compare [--seed N] [--cases N] [--minutes M] [--first N]`.
-//! The last line tells how many cases and differences; a difference is printed and makes the exit code 1.
+//! The last line tells how many cases and differences, the one before it how many blocks of their recordings met the level
+//! drawn for them only nearly. A difference is printed and makes the exit code 1.
 use oracle::compare::{run, Until};
 use std::process::ExitCode;
 use std::time::{Duration, Instant};
@@ -19,10 +20,9 @@ fn main() -> ExitCode {
     if let Some(difference) = &report.difference {
         println!("{difference}");
     }
-    let differences = u64::from(report.difference.is_some());
     println!("seed {seed}, from case {first}, {:.1} s", began.elapsed().as_secs_f64());
-    println!("{} cases, {differences} differences", report.cases);
-    ExitCode::from(differences as u8)
+    println!("{report}");
+    ExitCode::from(report.differences())
 }
 
 fn arguments() -> Result<(u64, u64, Until), String> {

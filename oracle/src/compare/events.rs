@@ -17,28 +17,28 @@ pub fn listed(s: &Settings, samples: &[i32]) -> Vec<Event> {
     words.chunks_exact(WORDS).map(|words| words.try_into().unwrap()).collect()
 }
 
-/// Any eight numbers, under settings that may be bad.
-pub fn any(random: &mut Random, s: &Settings) -> Event {
-    let mut event = match random.below(8) {
+/// Any eight numbers, under settings that may be bad; with them the near blocks of the recording that they are from.
+pub fn any(random: &mut Random, s: &Settings) -> (Event, u64) {
+    let (mut event, near) = match random.below(8) {
         0 => real(random, s),
-        7 => wild(random),
-        _ => bordering(random, s),
+        7 => (wild(random), 0),
+        _ => (bordering(random, s), 0),
     };
     if random.once_in(3) {
         let i = random.below(WORDS as u64) as usize;
         event[i] = event[i].wrapping_add(random.pick(&[1, u64::MAX]));
     }
-    event
+    (event, near)
 }
 
-/// An event of a real recording.
-fn real(random: &mut Random, s: &Settings) -> Event {
-    let samples = recordings::any(random, s);
-    let events = listed(s, &samples);
+/// An event of a real recording, and that recording's near blocks.
+fn real(random: &mut Random, s: &Settings) -> (Event, u64) {
+    let recording = recordings::any(random, s);
+    let events = listed(s, &recording.samples);
     if events.is_empty() {
-        bordering(random, s)
+        (bordering(random, s), 0)
     } else {
-        random.pick(&events)
+        (random.pick(&events), recording.near)
     }
 }
 

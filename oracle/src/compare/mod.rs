@@ -10,6 +10,7 @@ mod tables;
 use crate::random::Random;
 use crate::settings::first_bad;
 use crate::{Event, Settings, Table};
+use recordings::Recording;
 use std::fmt;
 use std::time::{Duration, Instant};
 
@@ -24,6 +25,14 @@ pub enum Case {
     Add { table: Table, samples: Vec<i32> },
     Fresh { settings: Settings },
     Score { settings: Settings, event: Event },
+}
+
+/// A case as it was drawn.
+#[derive(Clone, Debug, PartialEq)]
+pub struct Drawn {
+    pub case: Case,
+    /// How many blocks of its recording meet their level only nearly.
+    pub near: u64,
 }
 
 /// How long a run goes on.
@@ -42,29 +51,42 @@ pub struct Difference {
 }
 
 /// What a run found.
-#[derive(Debug)]
+#[derive(Debug, Default)]
 pub struct Report {
     pub cases: u64,
+    /// How many blocks of all recordings met their level only nearly.
+    pub near: u64,
     pub difference: Option<Difference>,
 }
 
 /// Compares the programs on the cases of a seed, from number `first` on, and stops at the first difference.
 pub fn run(seed: u64, first: u64, until: Until) -> Report {
     let began = Instant::now();
-    let mut cases = 0;
-    while match until {
+    let goes_on = |cases: u64| match until {
         Until::Cases(wanted) => cases < wanted,
         Until::Elapsed(allowed) => began.elapsed() < allowed,
-    } {
-        let number = first + cases;
-        let case = draw(seed, number);
-        cases += 1;
-        if differs(&case) {
-            let shortest = shrink::shortest(case);
-            return Report { cases, difference: Some(Difference { seed, number, shortest }) };
+    };
+    let mut report = Report::default();
+    while report.difference.is_none() && goes_on(report.cases) {
+        let number = first + report.cases;
+        report.compare(seed, number, draw(seed, number));
+    }
+    report
+}
+
+impl Report {
+    /// Compares the programs on one more case, which has this number of this seed.
+    pub fn compare(&mut self, seed: u64, number: u64, drawn: Drawn) {
+        self.cases += 1;
+        self.near += drawn.near;
+        if differs(&drawn.case) {
+            self.difference = Some(Difference { seed, number, shortest: shrink::shortest(drawn.case) });
         }
     }
-    Report { cases, difference: None }
+
+    pub fn differences(&self) -> u8 {
+        u8::from(self.difference.is_some())
+    }
 }
 
 /// Whether the two programs disagree on a case.
@@ -73,25 +95,25 @@ pub fn differs(case: &Case) -> bool {
 }
 
 /// The case of a seed with a number. Each stands by itself, so that one can be asked again alone.
-pub fn draw(seed: u64, number: u64) -> Case {
+pub fn draw(seed: u64, number: u64) -> Drawn {
     let random = &mut Random::new(seed ^ number.wrapping_mul(0xd134_2543_de82_ef95));
     match random.below(20) {
         0..=7 => draw_list(random, number),
         8..=12 => draw_add(random, number),
-        13 => Case::Fresh { settings: settings::good_or_bad(random, number) },
+        13 => Drawn { case: Case::Fresh { settings: settings::good_or_bad(random, number) }, near: 0 },
         _ => draw_score(random, number),
     }
 }
 
-fn draw_list(random: &mut Random, number: u64) -> Case {
+fn draw_list(random: &mut Random, number: u64) -> Drawn {
     let drawn = settings::mostly_good(random, number);
-    let (settings, samples) = draw_recording(random, drawn);
+    let (settings, Recording { samples, near }) = draw_recording(random, drawn);
     let room = draw_room(random, &settings, &samples);
-    Case::List { settings, samples, room }
+    Drawn { case: Case::List { settings, samples, room }, near }
 }
 
 /// A recording for the settings. One of the longest is rare, and has a small N for it to stay within a few megabytes.
-fn draw_recording(random: &mut Random, settings: Settings) -> (Settings, Vec<i32>) {
+fn draw_recording(random: &mut Random, settings: Settings) -> (Settings, Recording) {
     if first_bad(&settings).is_none() && random.once_in(500) {
         let settings = Settings { n: random.pick(&[8, 8, 10, 16]), ..settings };
         return (settings, recordings::long(random, &settings));
@@ -112,17 +134,17 @@ fn draw_room(random: &mut Random, s: &Settings, samples: &[i32]) -> usize {
     }
 }
 
-fn draw_add(random: &mut Random, number: u64) -> Case {
+fn draw_add(random: &mut Random, number: u64) -> Drawn {
     let drawn = settings::good(random, number);
-    let (settings, samples) = draw_recording(random, drawn);
+    let (settings, Recording { samples, near }) = draw_recording(random, drawn);
     let table = tables::any(random, &settings, &samples);
-    Case::Add { table, samples }
+    Drawn { case: Case::Add { table, samples }, near }
 }
 
-fn draw_score(random: &mut Random, number: u64) -> Case {
+fn draw_score(random: &mut Random, number: u64) -> Drawn {
     let settings = settings::mostly_good(random, number);
-    let event = events::any(random, &settings);
-    Case::Score { settings, event }
+    let (event, near) = events::any(random, &settings);
+    Drawn { case: Case::Score { settings, event }, near }
 }
 
 /// How many differing words of one answer are printed.
@@ -139,6 +161,14 @@ pub fn explain(case: &Case) -> String {
         }
     }
     lines.join("\n")
+}
+
+/// The last lines of a run.
+impl fmt::Display for Report {
+    fn fmt(&self, f: &mut fmt::Formatter) -> fmt::Result {
+        writeln!(f, "{} blocks met their level only nearly", self.near)?;
+        write!(f, "{} cases, {} differences", self.cases, self.differences())
+    }
 }
 
 impl fmt::Display for Difference {

@@ -8,29 +8,45 @@ use std::f64::consts::PI;
 
 const LIMIT: i32 = 100_000;
 
+/// The samples of a recording, or of one channel or block of it.
+#[derive(Clone, Debug, Default)]
+pub struct Recording {
+    pub samples: Vec<i32>,
+    /// How many of its blocks meet their level only nearly.
+    pub near: u64,
+}
+
+impl Recording {
+    /// Samples that were drawn without a level to meet.
+    fn without_levels(samples: Vec<i32>) -> Recording {
+        Recording { samples, near: 0 }
+    }
+}
+
 /// Any recording for the settings, which may be bad: then what it holds hardly matters.
-pub fn any(random: &mut Random, s: &Settings) -> Vec<i32> {
+pub fn any(random: &mut Random, s: &Settings) -> Recording {
     if first_bad(s).is_some() {
         let length = random.below(200);
-        return (0..length).map(|_| random.signed(-LIMIT, LIMIT)).collect();
+        return Recording::without_levels((0..length).map(|_| random.signed(-LIMIT, LIMIT)).collect());
     }
     let blocks = block_count(random, s);
-    let mut samples = match random.below(10) {
+    let mut recording = match random.below(10) {
         0..=5 => levels(random, s, blocks),
-        6 | 7 => sines(random, s, blocks),
-        8 => noise(random, s, blocks),
-        _ => flat(random, s, blocks),
+        6 | 7 => Recording::without_levels(sines(random, s, blocks)),
+        8 => Recording::without_levels(noise(random, s, blocks)),
+        _ => Recording::without_levels(flat(random, s, blocks)),
     };
+    let samples = &mut recording.samples;
     if random.once_in(3) {
-        lose_some(random, s, &mut samples);
+        lose_some(random, s, samples);
     }
     if random.once_in(16) {
-        spoil(random, &mut samples);
+        spoil(random, samples);
     }
     if random.once_in(12) {
-        fray(random, s, &mut samples);
+        fray(random, s, samples);
     }
-    samples
+    recording
 }
 
 /// How many blocks of half a cycle: mostly few, since the naive program tries every j; with a small N now and then more.
@@ -40,7 +56,7 @@ fn block_count(random: &mut Random, s: &Settings) -> usize {
 }
 
 /// A recording as long as allowed, one half-cycle longer, or long enough for the last columns.
-pub fn long(random: &mut Random, s: &Settings) -> Vec<i32> {
+pub fn long(random: &mut Random, s: &Settings) -> Recording {
     let halves = match random.below(4) {
         0 => 100_000,
         1 => 100_001,
@@ -65,27 +81,34 @@ pub fn long(random: &mut Random, s: &Settings) -> Vec<i32> {
     if random.once_in(2) {
         lose_some(random, s, &mut samples);
     }
-    samples
+    Recording::without_levels(samples)
 }
 
 /// A run of blocks, each channel's level held for a few blocks and then drawn anew from the borders and beside them.
-fn levels(random: &mut Random, s: &Settings, blocks: usize) -> Vec<i32> {
+fn levels(random: &mut Random, s: &Settings, blocks: usize) -> Recording {
     let per_block = s.n as usize / 2;
     let manner = random.below(4);
-    let mut channels = [vec![], vec![], vec![]];
+    let mut channels: [Recording; 3] = Default::default();
     for channel in 0..3 {
         channels[channel] = match manner {
             0 if channel > 0 => channels[0].clone(),
-            1 if channel > 0 => vec![block_of(s, 1_000, 0); blocks].concat(),
+            1 if channel > 0 => at_the_reference(s, blocks),
             2 if channel == 2 => channels[0].clone(),
             _ => one_channel(random, s, blocks),
         };
     }
-    (0..blocks * per_block).flat_map(|i| [channels[0][i], channels[1][i], channels[2][i]]).collect()
+    let [a, b, c] = &channels;
+    let samples = (0..blocks * per_block).flat_map(|i| [a.samples[i], b.samples[i], c.samples[i]]).collect();
+    Recording { samples, near: a.near + b.near + c.near }
 }
 
-fn one_channel(random: &mut Random, s: &Settings, blocks: usize) -> Vec<i32> {
-    let mut samples = Vec::new();
+fn at_the_reference(s: &Settings, blocks: usize) -> Recording {
+    let block = block_of(s, 1_000, 0);
+    Recording { samples: block.samples.repeat(blocks), near: block.near * blocks as u64 }
+}
+
+fn one_channel(random: &mut Random, s: &Settings, blocks: usize) -> Recording {
+    let mut channel = Recording::default();
     let mut left = blocks;
     while left > 0 {
         let hold = (random.between(1, 5) as usize).min(left);
@@ -94,11 +117,13 @@ fn one_channel(random: &mut Random, s: &Settings, blocks: usize) -> Vec<i32> {
         // Two neighbouring blocks make a window; only one of them is moved, so that the window is off by one unit.
         let (moved, still) = (block_of(s, thousandths, beside), block_of(s, thousandths, 0));
         for i in 0..hold {
-            samples.extend(if i % 2 == 0 { &moved } else { &still });
+            let block = if i % 2 == 0 { &moved } else { &still };
+            channel.samples.extend(&block.samples);
+            channel.near += block.near;
         }
         left -= hold;
     }
-    samples
+    channel
 }
 
 /// A level in thousandths of the reference: most often one that some rule compares with.
@@ -121,44 +146,83 @@ fn border(random: &mut Random, s: &Settings) -> u64 {
 }
 
 /// Half a cycle of one channel whose squares sum to half of what a window at this level has, plus `beside`. The window's
-/// sum is rounded up, so that with 0 it is the first at or above the level, and with -1 the last below.
-fn block_of(s: &Settings, thousandths: u64, beside: i64) -> Vec<i32> {
+/// sum is rounded up, so that with 0 it is the first at or above the level, and with -1 the last below. Where no four
+/// squares are found for the end of the block, it is near: its sum is a little less.
+fn block_of(s: &Settings, thousandths: u64, beside: i64) -> Recording {
     let window = (thousandths * thousandths * s.n * s.r * s.r).div_ceil(1_000_000);
     // The two halves of an odd sum differ by one; both being the larger, a window is at most one unit above.
     let wanted = (window.div_ceil(2) as i64 + beside).max(0) as u64;
     let count = s.n / 2;
     let base = (wanted / count).isqrt();
-    let mut block = vec![base as i32; count as usize - 4];
+    let mut samples = vec![base as i32; count as usize - 4];
     let rest = wanted - base * base * (count - 4);
-    let last = squares(rest, 4).expect("every number is the sum of four squares");
-    block.extend(last);
+    let found = four_squares(rest, LIMIT as u64);
+    let near = u64::from(found.is_none());
+    samples.extend(found.unwrap_or_else(|| nearly(rest)));
     // Alternating signs: the squares are the same, and a program that sums before it squares is found out.
-    for sample in block.iter_mut().step_by(2) {
+    for sample in samples.iter_mut().step_by(2) {
         *sample = -*sample;
     }
-    block
+    Recording { samples, near }
 }
 
-/// As many samples, up to four, whose squares sum to `rest`.
-fn squares(rest: u64, count: u64) -> Option<Vec<i32>> {
-    let root = rest.isqrt().min(LIMIT as u64);
-    if count == 1 {
-        return (root * root == rest).then(|| vec![root as i32]);
+/// Four samples up to `most` whose squares sum to `rest`. Every number is the sum of four squares, but one of them may be
+/// beyond `most`, and the search has its bounds.
+fn four_squares(rest: u64, most: u64) -> Option<Vec<i32>> {
+    let found = Search { most, tries: TRIES }.squares(rest, 4);
+    if found.is_some() || !rest.is_multiple_of(8) {
+        return found;
     }
-    // Such numbers are no sum of three squares (Legendre) or of two, and the search would go through them all.
-    let without_fours = if rest == 0 { 0 } else { rest >> (rest.trailing_zeros() & !1) };
-    let without_twos = if rest == 0 { 0 } else { rest >> rest.trailing_zeros() };
-    if count == 3 && without_fours % 8 == 7 || count == 2 && without_twos % 4 == 3 {
-        return None;
+    // Odd squares are 1 above a multiple of 8, even ones 0 or 4: four that sum to such a multiple are all even. So a quarter
+    // of the sum is as good, and there the same number of tries reaches twice as far.
+    let halves = four_squares(rest / 4, most / 2)?;
+    Some(halves.into_iter().map(|half| 2 * half).collect())
+}
+
+/// Four samples whose squares sum to nearly `rest`: each is the largest that what is left of it has room for.
+fn nearly(rest: u64) -> Vec<i32> {
+    let mut left = rest;
+    let mut largest = || {
+        let root = left.isqrt().min(LIMIT as u64);
+        left -= root * root;
+        root as i32
+    };
+    (0..4).map(|_| largest()).collect()
+}
+
+/// How many numbers a search looks at before it gives up, which takes some hundredths of a second. No search that found four
+/// squares has been seen to take more than a seventh of these.
+const TRIES: u64 = 1 << 22;
+
+/// A search for squares of samples up to `most`, with so many tries left.
+struct Search {
+    most: u64,
+    tries: u64,
+}
+
+impl Search {
+    /// As many samples, up to four, whose squares sum to `rest`.
+    fn squares(&mut self, rest: u64, count: u64) -> Option<Vec<i32>> {
+        self.tries = self.tries.checked_sub(1)?;
+        let root = rest.isqrt().min(self.most);
+        if count == 1 {
+            return (root * root == rest).then(|| vec![root as i32]);
+        }
+        // Such numbers are no sum of three squares (Legendre) or of two, and the search would go through them all.
+        let without_fours = if rest == 0 { 0 } else { rest >> (rest.trailing_zeros() & !1) };
+        let without_twos = if rest == 0 { 0 } else { rest >> rest.trailing_zeros() };
+        if count == 3 && without_fours % 8 == 7 || count == 2 && without_twos % 4 == 3 {
+            return None;
+        }
+        // Of two squares the larger is tried near the root only: what is left is then small, and sooner a square itself.
+        let tries = if count == 2 { 64 } else { usize::MAX };
+        let mut largest = (0..=root).rev().take_while(|first| count * first * first >= rest).take(tries);
+        largest.find_map(|first| {
+            let mut others = self.squares(rest - first * first, count - 1)?;
+            others.push(first as i32);
+            Some(others)
+        })
     }
-    // Of two squares the larger is tried near the root only: what is left is then small, and sooner a square itself.
-    let tries = if count == 2 { 64 } else { usize::MAX };
-    let mut largest = (0..=root).rev().take_while(|first| count * first * first >= rest).take(tries);
-    largest.find_map(|first| {
-        let mut others = squares(rest - first * first, count - 1)?;
-        others.push(first as i32);
-        Some(others)
-    })
 }
 
 /// Three phasors, as real and imaginary parts in units of the reference.
@@ -285,4 +349,51 @@ fn fray(random: &mut Random, s: &Settings, samples: &mut Vec<i32>) {
         _ => samples.len() + 3 * random.between(1, s.n / 2) as usize,
     };
     samples.resize(wanted, s.r as i32);
+}
+
+#[cfg(test)]
+mod tests {
+    use super::*;
+
+    fn sum_of_squares(samples: &[i32]) -> u64 {
+        samples.iter().map(|&sample| u64::from(sample.unsigned_abs()).pow(2)).sum()
+    }
+
+    #[test]
+    fn few_squares_are_found() {
+        // Up to the highest level at the largest reference; a high power of four times a small number has few.
+        let most = 4 * 80_000 * 80_000;
+        let sums = (0..16).flat_map(|power| (0..64).map(move |factor: u64| factor << (2 * power)));
+        for rest in sums.filter(|&rest| rest <= most) {
+            let found = four_squares(rest, LIMIT as u64).unwrap_or_else(|| panic!("none for {rest}"));
+            assert!(found.len() == 4 && found.iter().all(|sample| (0..=LIMIT).contains(sample)), "{rest}: {found:?}");
+            assert_eq!(sum_of_squares(&found), rest);
+        }
+    }
+
+    #[test]
+    fn a_near_sum_is_close() {
+        // 4 + 1 + 1 + 0 times 4^16 is the only way to write this one, and twice 2^16 is out of range.
+        let rest = 6 << 32;
+        assert_eq!(four_squares(rest, LIMIT as u64), None);
+        let samples = nearly(rest);
+        assert!(samples.len() == 4 && samples.iter().all(|sample| (0..=LIMIT).contains(sample)), "{samples:?}");
+        assert!((rest - 1_000..rest).contains(&sum_of_squares(&samples)), "{samples:?}");
+    }
+
+    #[test]
+    fn near_blocks_are_counted() {
+        // A reference out of range: no four samples reach the higher levels, and all four are the largest then.
+        let s = Settings { n: 16, r: 120_000, f: 50, sag: 90, interruption: 10, swell: 110, hysteresis: 2 };
+        let is_near = |block: &[i32]| block[4..].iter().all(|sample| sample.abs() == LIMIT);
+        let mut counted = 0;
+        for seed in 0..20 {
+            let recording = levels(&mut Random::new(seed), &s, 12);
+            let channel = |i: usize| recording.samples.iter().skip(i).step_by(3).copied().collect::<Vec<i32>>();
+            let near = (0..3).map(|i| channel(i).chunks(8).filter(|block| is_near(block)).count() as u64).sum();
+            assert_eq!(recording.near, near, "seed {seed}");
+            counted += near;
+        }
+        assert!((1..20 * 3 * 12).contains(&counted), "{counted} blocks");
+    }
 }
