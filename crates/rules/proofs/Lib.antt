@@ -16,3 +16,9 @@ pub mod Scorable
 pub mod Stray
 pub mod DemandTwo
 pub mod DemandThree
+pub mod Channels
+pub mod Exclusive
+pub mod Extremes
+pub mod Types
+pub mod Places
+pub mod Refusals

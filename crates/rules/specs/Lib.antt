@@ -8,4 +8,5 @@ pub mod Scores
 pub mod Site
 pub mod Refusals
 pub mod Demands
+pub mod Meanings
 pub mod Known
