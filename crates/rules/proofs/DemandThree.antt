@@ -19,7 +19,7 @@ use Rattle.rules.specs.Events.{inEvent, starts, endOf, startSeen, endSee
 use Rattle.rules.specs.EventList.{eventFrom}
 use Rattle.rules.specs.Site.{cellOf, isHealthy, isDisturbed, isUnknown, isPlaced, isUnplaced, sagCell, isContained, isStray, sagShort, cellsFrom, grown, cells, empty, total, mostHalves, isUnsound}
 use Rattle.rules.specs.Refusals.{recordingCheck, settingsCheck, byCheck, andThen, freshened, soundCheck, fullCheck, addCheck, added}
-use Rattle.rules.specs.Demands.{Scorable, offer, taken, admits, admitted, sumOver, placedIn, SumsUp}
+use Rattle.rules.specs.Demands.{Scorable, offer, taken, admits, admitted, sumOver, placedIn, Sound, SumsUp}
 use Rattle.rules.specs.declared.Settings.{Settings}
 use Rattle.rules.specs.declared.Half.{Half}
 use Rattle.rules.specs.declared.Kind.the-variants.{Sag, Interruption, Swell}
@@ -97,18 +97,6 @@ cells-sum g (c ∷ cs) i =
     omega (arith, cells-sum g cs (suc i))
 
 -- ---- sound tables
-
--- what a table that is not unsound is, part by part
-pub record Sound (t : Table) : Type 0 where
-  pub good-settings : settingsGood (t .settings) ≡ true
-  pub total-high : t .total ≤ mostHalves
-  pub classes : t .healthy + t .disturbed + t .unknown ≡ t .total
-  pub places : total (t .cells) + t .unplaced ≡ t .sags
-  pub sags-high : t .sags ≤ t .total
-  pub interruptions-high : t .interruptions ≤ t .total
-  pub swells-high : t .swells ≤ t .total
-  pub stray-high : t .stray ≤ t .interruptions
-  pub shortfall-high : t .shortfall ≤ 3 * full (t .settings) * t .total
 
 none-of : (a b c d e f g h i : Bool) → a || b || c || d || (e || f || g) || h || i ≡ false
     → (a ≡ false) × (b ≡ false) × (c ≡ false) × (d ≡ false) × (e ≡ false) × (f ≡ false) × (g ≡ false) × (h ≡ false) × (i ≡ false)

@@ -9,10 +9,10 @@ use lib.IntN.{ℤ}
 use lib.ListN.{length, getD}
 use Rattle.rules.specs.Bounded.{all, count}
 use Rattle.rules.specs.Recorder.{settingsGood}
-use Rattle.rules.specs.Halves.{halfAt, halvesOf, known}
+use Rattle.rules.specs.Halves.{halfAt, halvesOf, known, full}
 use Rattle.rules.specs.Events.{begins, ends, starts}
 use Rattle.rules.specs.Scores.{isSag, isEvent}
-use Rattle.rules.specs.Site.{isHealthy, isDisturbed, isUnknown, isPlaced, isUnplaced, sagCell, isStray, sagShort, cells, mostHalves}
+use Rattle.rules.specs.Site.{isHealthy, isDisturbed, isUnknown, isPlaced, isUnplaced, sagCell, isStray, sagShort, cells, total, mostHalves}
 use Rattle.rules.specs.Refusals.{recordingCheck, byCheck, andThen, addCheck, added}
 use Rattle.rules.specs.declared.Settings.{Settings}
 use Rattle.rules.specs.declared.Half.{Half}
@@ -103,6 +103,18 @@ sumOver g (xs ∷ rs) = g xs + sumOver g rs
 -- the sags of a recording that go in cell i
 abbrev pub placedIn : Settings → List ℤ → ℕ → ℕ
 placedIn s xs i = let h = halfAt s xs in let n = halvesOf s xs in count (λ k. isPlaced s h n k && eqb (sagCell s h n k) i) n
+
+-- what a table that is not unsound is, part by part: each of the rules' seven conditions turned round
+pub record Sound (t : Table) : Type 0 where
+  pub good-settings : settingsGood (t .settings) ≡ true
+  pub total-high : t .total ≤ 4000000
+  pub classes : t .healthy + t .disturbed + t .unknown ≡ t .total
+  pub places : total (t .cells) + t .unplaced ≡ t .sags
+  pub sags-high : t .sags ≤ t .total
+  pub interruptions-high : t .interruptions ≤ t .total
+  pub swells-high : t .swells ≤ t .total
+  pub stray-high : t .stray ≤ t .interruptions
+  pub shortfall-high : t .shortfall ≤ 3 * full (t .settings) * t .total
 
 -- a table with settings s holds what the recordings add up to: each count its own, each straight from the samples
 pub record SumsUp (s : Settings) (t : Table) (rs : List (List ℤ)) : Type 0 where

@@ -21,7 +21,8 @@ use Rattle.rules.specs.Refusals.{recordingCheck, soundCheck, fullCheck, addChec
 use Rattle.rules.proofs.Booleans.{cases, neither, not-both}
 use Rattle.rules.proofs.Choices.{lower}
 use Rattle.rules.proofs.Ranges.{good, full-high}
-use Rattle.rules.proofs.DemandThree.{cells-length, cells-at, Sound, sound-parts, sound-made, grown-sound}
+use Rattle.rules.specs.Demands.{Sound}
+use Rattle.rules.proofs.DemandThree.{cells-length, cells-at, sound-parts, sound-made, grown-sound}
 use Rattle.rules.specs.declared.Table.{Table}
 use Rattle.rules.specs.declared.Refusal.{Refusal}
 use Rattle.rules.specs.declared.Refusal.the-variants.{Full, Unsound}
