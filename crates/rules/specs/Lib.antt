@@ -10,3 +10,4 @@ pub mod Refusals
 pub mod Demands
 pub mod Meanings
 pub mod Known
+pub mod Cases

@@ -1,0 +1,1262 @@
+-- A second table of cases, C1, C2, ..: one statement over one table, as the known answers are. K1 to K12 are the rules' own.
+-- These are ours, and go where those don't: unequal channels, both sides of each mark and border, gaps, ties, refusals, unsound
+-- tables.
+--
+-- The answers are the second program's. It was written from the rules alone, without a look at these definitions, and writes this
+-- file:
+--
+--     cargo run -p oracle --bin cases
+--
+-- The questions are in oracle/src/cases. A test of oracle/ holds the file to what the second program writes, so that no number in
+-- it is changed by hand, and puts the same questions to the proved library.
+use Prim.Native.Nat.{ℕ, zero, suc, _*_, _/_}
+use mathlib.Core.Path.{_≡_, refl}
+use mathlib.Core.List.{List, [], _∷_, _++_, map}
+use lib.ListN.{replicate, set}
+use lib.IntN.{ℤ, pos, negsuc, negℤ}
+use lib.Ieee.{binary64, div, ofInt, ofBits}
+use Rattle.rules.specs.Recorder.{firstBad, badSetting, settingsGood}
+use Rattle.rules.specs.Halves.{halvesOf, anyMissing, squares, sumsAt, halfAt, full}
+use Rattle.rules.specs.Events.{carries, inRun, inEvent, starts, endOf, seenOf, extremeOf, earliest, climb, retainedOf, shortsOf, sixSums, typeOf}
+use Rattle.rules.specs.EventList.{eventFrom, eventAt, eventsOf}
+use Rattle.rules.specs.Scores.{inBounds, sagGood, isEvent, reasonOf, scoring}
+use Rattle.rules.specs.Site.{rowOf, columnOf, cellOf, isHealthy, isDisturbed, isUnknown, isPlaced, isUnplaced, sagCell, isContained, isStray, sagShortfalls, grown, isUnsound}
+use Rattle.rules.specs.Refusals.{numberOf, placeIn, recordingCheck, settingsCheck, roomCheck, listCheck, listed, written, freshened, soundCheck, fullCheck, addCheck, added}
+use Rattle.rules.specs.declared.Settings.{Settings}
+use Rattle.rules.specs.declared.Event.{Event}
+use Rattle.rules.specs.declared.Table.{Table}
+use Rattle.rules.specs.declared.Scoring.{Scoring}
+use Rattle.rules.specs.declared.Scoring.the-variants.{Scored, Unscored}
+use Rattle.rules.specs.declared.Taken.{Taken}
+use Rattle.rules.specs.declared.Taken.the-variants.{Accepted, Refused}
+use Rattle.rules.specs.declared.Listed.{Listed}
+use Rattle.rules.specs.declared.Listed.the-variants.{Events, Turned}
+
+-- ---- questions and answers
+
+-- what is lent or handed over: the run that events go to, a site table
+data Lent : Type 0 where
+  run : List ℕ → Lent
+  site : Table → Lent
+
+-- the list of a recording, into a lent run of so many numbers that are all 9; a recording added to a table; a fresh table; the
+-- score of an event
+data Asked : Type 0 where
+  list : Settings → (room : ℕ) → List ℤ → Asked
+  add : Table → List ℤ → Asked
+  fresh : Settings → Asked
+  score : Settings → Event → Asked
+
+-- so many events; taken; a refusal with its number and place: each with what the run or the table holds afterwards. Or an
+-- event's reason, its score and its cell
+data Answer : Type 0 where
+  events : ℕ → Lent → Answer
+  taken : Lent → Answer
+  refused : (number place : ℕ) → Lent → Answer
+  judged : (reason : ℕ) → Scoring → (cell : ℕ) → Answer
+
+infix 70 _⟶_
+data Case : Type 0 where
+  _⟶_ : Asked → Answer → Case
+
+abbrev nines : ℕ → List ℕ
+nines n = replicate n 9
+
+abbrev toldOfList : Listed → Lent → Answer
+toldOfList (Events n) holds = events n holds
+toldOfList (Turned r) holds = refused (numberOf r) (placeIn r) holds
+
+abbrev toldOfSite : Taken → Lent → Answer
+toldOfSite Accepted holds = taken holds
+toldOfSite (Refused r) holds = refused (numberOf r) (placeIn r) holds
+
+-- what the rules say
+answerTo : Asked → Answer
+answerTo (list s room xs) = toldOfList (listed s xs room) (run (written s xs (nines room)))
+answerTo (add t xs) = let handed = added t xs in toldOfSite (handed .answer) (site (handed .table))
+answerTo (fresh s) = let handed = freshened s in toldOfSite (handed .answer) (site (handed .table))
+answerTo (score s e) = judged (reasonOf s e) (scoring s e) (cellOf s e)
+
+asked-again : Case → Case
+asked-again (asked ⟶ answer) = asked ⟶ answerTo asked
+
+-- ---- settings, events, scores and tables by their numbers
+
+abbrev settings : (n r f sag interruption swell hysteresis : ℕ) → Settings
+settings n r f sag interruption swell hysteresis =
+    record {
+      n = n;
+      r = r;
+      f = f;
+      sag = sag;
+      interruption = interruption;
+      swell = swell;
+      hysteresis = hysteresis;
+    }
+
+-- those of the known answers; without hysteresis; f 60 with other thresholds and the largest hysteresis; N 10 and R 1,001, where
+-- no mark is a whole number of S; R 50,000, half of the largest sample
+abbrev house : Settings
+house = settings 8 1000 50 90 10 110 2
+
+abbrev sharp : Settings
+sharp = settings 8 1000 50 90 10 110 0
+
+abbrev wide : Settings
+wide = settings 8 1000 60 80 20 120 5
+
+abbrev ten : Settings
+ten = settings 10 1001 60 85 7 113 3
+
+abbrev high : Settings
+high = settings 8 50000 50 90 10 110 2
+
+abbrev event : (kind start end seen extreme retained shortfall class : ℕ) → Event
+event kind start end seen extreme retained shortfall class =
+    record {
+      kind = kind;
+      start = start;
+      end = end;
+      seen = seen;
+      extreme = extreme;
+      retained = retained;
+      shortfall = shortfall;
+      class = class;
+    }
+
+-- the same eight numbers in a run
+abbrev words : (kind start end seen extreme retained shortfall class : ℕ) → List ℕ
+words kind start end seen extreme retained shortfall class =
+    kind ∷ start ∷ end ∷ seen ∷ extreme ∷ retained ∷ shortfall ∷ class ∷ []
+
+-- a score by the bits of its two floats, and its cell; a reason, and the cell beside it
+abbrev scored : (severity energy cell : ℕ) → Answer
+scored severity energy cell =
+    judged 0 (Scored (record { severity = ofBits binary64 severity; energy = ofBits binary64 energy })) cell
+
+abbrev unscored : (reason cell : ℕ) → Answer
+unscored reason cell = judged reason (Unscored reason) cell
+
+abbrev table :
+    Settings
+    → (total healthy disturbed unknown : ℕ)
+    → List ℕ
+    → (unplaced sags interruptions swells stray shortfall : ℕ)
+    → Table
+table s total healthy disturbed unknown cells unplaced sags interruptions swells stray shortfall =
+    record {
+      settings = s;
+      total = total;
+      healthy = healthy;
+      disturbed = disturbed;
+      unknown = unknown;
+      cells = cells;
+      unplaced = unplaced;
+      sags = sags;
+      interruptions = interruptions;
+      swells = swells;
+      stray = stray;
+      shortfall = shortfall;
+    }
+
+-- forty cells with nothing in them; so many in one cell; n counts that rise by one
+abbrev none : List ℕ
+none = replicate 40 0
+
+abbrev put : (cell count : ℕ) → List ℕ → List ℕ
+put cell count cells = set cells cell count
+
+abbrev rising : (n from : ℕ) → List ℕ
+rising zero from = []
+rising (suc n) from = from ∷ rising n (suc from)
+
+-- a table with nothing in it but its settings; with nothing but healthy half-cycles; with a number of its own in each place
+abbrev blank : Settings → Table
+blank s = table s 0 0 0 0 none 0 0 0 0 0 0
+
+abbrev healthyOnly : ℕ → Table
+healthyOnly n = table house n n 0 0 none 0 0 0 0 0 0
+
+abbrev various : Table
+various = table house 10012 5003 3001 2008 (rising 40 101) 57 4877 611 713 19 1234567
+
+-- ---- recordings
+
+-- n samples, the same of each channel; n blocks of four with a level for each channel; with one level for all
+abbrev alike : (n a b c : ℕ) → List ℤ
+alike zero a b c = []
+alike (suc n) a b c = pos a ∷ pos b ∷ pos c ∷ alike n a b c
+
+abbrev uneven : (n a b c : ℕ) → List ℤ
+uneven n a b c = alike (4 * n) a b c
+
+abbrev even : (n v : ℕ) → List ℤ
+even n v = uneven n v v v
+
+-- three channels interleaved
+abbrev weave : (a b c : List ℤ) → List ℤ
+weave [] ys zs = []
+weave (x ∷ xs) [] zs = []
+weave (x ∷ xs) (y ∷ ys) [] = []
+weave (x ∷ xs) (y ∷ ys) (z ∷ zs) = x ∷ y ∷ z ∷ weave xs ys zs
+
+-- samples of one channel: n at a level, or four of them
+abbrev level : (n v : ℕ) → List ℤ
+level n v = replicate n (pos v)
+
+abbrev quad : (p q r s : ℕ) → List ℤ
+quad p q r s = pos p ∷ pos q ∷ pos r ∷ pos s ∷ []
+
+-- a negative sample; the one that means "missing"; samples with the other sign
+abbrev minus : ℕ → ℤ
+minus n = negℤ (pos n)
+
+abbrev lost : ℤ
+lost = negsuc 2147483647
+
+abbrev mirror : List ℤ → List ℤ
+mirror xs = map negℤ xs
+
+-- a cycle of three sines, eight samples each, with an rms value for each channel
+abbrev scaled : ℕ → ℤ → ℤ
+scaled v (pos n) = pos (n * v / 1000)
+scaled v (negsuc n) = minus (suc n * v / 1000)
+
+abbrev sines : (a b c : ℕ) → List ℤ
+sines a b c = half ++ mirror half
+  where
+    half : List ℤ
+    half =
+        weave (map (scaled a) (quad 0 1000 1414 1000))
+        (map (scaled b) (minus 1225 ∷ minus 1366 ∷ minus 707 ∷ pos 366 ∷ []))
+        (map (scaled c) (pos 1225 ∷ pos 366 ∷ minus 707 ∷ minus 1366 ∷ []))
+
+-- ---- sags on unequal channels
+
+sags : List Case
+sags =
+    -- C1: a sag begun by channel a goes on while b alone is below sag threshold plus hysteresis, the others back
+    list house 9 (even 2 1000 ++ uneven 1 500 1000 1000 ++ uneven 2 1000 915 1000 ++ even 2 1000)
+    ⟶ events 1 (run (words 1 1 4 3 5000000 790 6000000 4 ++ nines 1))
+    -- C2: begun by channel b, kept by c
+    ∷ list house 9 (even 2 1000 ++ uneven 1 1000 500 1000 ++ uneven 2 1000 1000 915 ++ even 2 1000)
+    ⟶ events 1 (run (words 1 1 4 3 5000000 790 6000000 5 ++ nines 1))
+    -- C3: begun by channel c, kept by a
+    ∷ list house 9 (even 2 1000 ++ uneven 1 1000 1000 500 ++ uneven 2 915 1000 1000 ++ even 2 1000)
+    ⟶ events 1 (run (words 1 1 4 3 5000000 790 6000000 6 ++ nines 1))
+    -- C4: hysteresis 5: channel b keeps its own sag at 84 percent, and a surplus of c is no shortfall taken away
+    ∷ list wide 9 (even 2 1000 ++ uneven 1 1000 300 1000 ++ uneven 2 1000 840 1000 ++ uneven 1 1000 1000 1100 ++ even 2 1000)
+    ⟶ events 1 (run (words 1 1 4 3 3182400 630 8457600 5 ++ nines 1))
+    -- C5: a sag ends only when all are back: a first, then b, last c
+    ∷ list house 9 (even 2 1000 ++ uneven 1 500 600 700 ++ uneven 1 1000 600 700 ++ uneven 1 1000 1000 700 ++ even 2 1000)
+    ⟶ events 1 (run (words 1 1 5 3 2880000 600 28480000 4 ++ nines 1))
+    -- C6: the same, in the table
+    ∷ add (blank house) (even 2 1000 ++ uneven 1 500 600 700 ++ uneven 1 1000 600 700 ++ uneven 1 1000 1000 700 ++ even 2 1000)
+    ⟶ taken (site (table house 6 2 4 0 (put 17 1 none) 0 1 0 0 0 28480000))
+    -- C7: c first, then b, last a
+    ∷ list house 9 (even 2 1000 ++ uneven 1 500 600 700 ++ uneven 1 500 600 1000 ++ uneven 1 500 1000 1000 ++ even 2 1000)
+    ⟶ events 1 (run (words 1 1 5 3 2000000 500 32320000 6 ++ nines 1))
+    -- C8: the extreme is channel b's, and a later half-cycle's than the first
+    ∷ list house 9 (even 2 1000 ++ uneven 2 700 1000 1000 ++ uneven 2 700 300 1000 ++ uneven 1 700 1000 1000 ++ even 2 1000)
+    ⟶ events 1 (run (words 1 1 7 3 720000 300 34960000 1 ++ nines 1))
+    -- C9: the extreme is channel c's, in the last half-cycles
+    ∷ list house 9 (even 2 1000 ++ uneven 2 700 1000 1000 ++ uneven 2 1000 800 200 ++ even 2 1000)
+    ⟶ events 1 (run (words 1 1 6 3 320000 200 26400000 6 ++ nines 1))
+    -- C10: two sags, on a and on c, with one calm half-cycle between
+    ∷ list house 17 (even 2 1000 ++ uneven 1 700 1000 1000 ++ even 2 1000 ++ uneven 1 1000 1000 700 ++ even 2 1000)
+    ⟶ events 2 (run (words 1 1 3 3 5960000 863 4080000 4 ++ words 1 4 6 3 5960000 863 4080000 6 ++ nines 1))
+    ∷ []
+
+-- ---- interruptions on unequal channels
+
+interruptions : List Case
+interruptions =
+    -- C11: one channel below the threshold is no interruption
+    list house 9 (even 2 1000 ++ uneven 2 0 1000 1000 ++ even 2 1000)
+    ⟶ events 1 (run (words 1 1 4 3 0 0 16000000 4 ++ nines 1))
+    -- C12: nor are two, with c up
+    ∷ list house 9 (even 2 1000 ++ uneven 2 0 0 1000 ++ even 2 1000)
+    ⟶ events 1 (run (words 1 1 4 3 0 0 32000000 6 ++ nines 1))
+    -- C13: nor are two, with b up
+    ∷ list house 9 (even 2 1000 ++ uneven 2 0 1000 0 ++ even 2 1000)
+    ⟶ events 1 (run (words 1 1 4 3 0 0 32000000 5 ++ nines 1))
+    -- C14: nor are two, with a up
+    ∷ list house 9 (even 2 1000 ++ uneven 2 1000 0 0 ++ even 2 1000)
+    ⟶ events 1 (run (words 1 1 4 3 0 0 32000000 4 ++ nines 1))
+    -- C15: all three are one, its extreme the smallest: a's
+    ∷ list house 17 (even 2 1000 ++ uneven 2 50 60 70 ++ even 2 1000)
+    ⟶ events 2 (run (words 1 1 4 3 20000 50 47824000 2 ++ words 2 2 3 3 20000 50 0 0 ++ nines 1))
+    -- C16: b's
+    ∷ list house 17 (even 2 1000 ++ uneven 2 60 50 70 ++ even 2 1000)
+    ⟶ events 2 (run (words 1 1 4 3 20000 50 47824000 1 ++ words 2 2 3 3 20000 50 0 0 ++ nines 1))
+    -- C17: c's
+    ∷ list house 17 (even 2 1000 ++ uneven 2 70 60 50 ++ even 2 1000)
+    ⟶ events 2 (run (words 1 1 4 3 20000 50 47824000 2 ++ words 2 2 3 3 20000 50 0 0 ++ nines 1))
+    -- C18: the smallest over all half-cycles: the extreme is channel c's, in the middle
+    ∷ list house 17 (even 2 1000 ++ uneven 1 90 80 85 ++ uneven 2 85 90 30 ++ uneven 1 80 70 90 ++ even 2 1000)
+    ⟶ events 2 (run (words 1 1 6 3 7200 30 95411400 6 ++ words 2 2 5 3 7200 30 0 0 ++ nines 1))
+    -- C19: it ends when a is back, b and c still down
+    ∷ list house 17 (even 2 1000 ++ even 2 0 ++ uneven 2 500 0 0 ++ even 2 1000)
+    ⟶ events 2 (run (words 1 1 6 3 0 0 92000000 0 ++ words 2 2 3 3 0 0 0 0 ++ nines 1))
+    -- C20: it ends when b is back, a and c still down; a second one in the same sag
+    ∷ list house 25 (even 2 1000 ++ even 2 0 ++ uneven 2 0 500 0 ++ even 2 0 ++ even 2 1000)
+    ⟶ events 3 (run (words 1 1 8 3 0 0 140000000 0 ++ words 2 2 3 3 0 0 0 0 ++ words 2 6 7 3 0 0 0 0 ++ nines 1))
+    -- C21: it ends when c is back, a and b still down
+    ∷ list house 17 (even 2 1000 ++ even 2 0 ++ uneven 2 0 0 130 ++ even 2 1000)
+    ⟶ events 2 (run (words 1 1 6 3 0 0 95729600 0 ++ words 2 2 4 3 0 0 0 0 ++ nines 1))
+    -- C22: channels above the threshold and below threshold plus hysteresis do not end it
+    ∷ list house 17 (even 2 1000 ++ even 2 0 ++ uneven 2 0 110 119 ++ even 1 0 ++ even 2 1000)
+    ⟶ events 2 (run (words 1 1 7 3 0 0 119579824 0 ++ words 2 2 6 3 0 0 0 0 ++ nines 1))
+    -- C23: two interruptions in one sag, in the table: none is stray
+    ∷ add (blank house) (even 2 1000 ++ even 2 0 ++ uneven 2 0 500 0 ++ even 2 0 ++ even 2 1000)
+    ⟶ taken (site (table house 9 2 7 0 (put 1 1 none) 0 1 2 0 0 140000000))
+    ∷ []
+
+-- ---- swells on unequal channels
+
+swells : List Case
+swells =
+    -- C24: a swell begun by channel a goes on while b alone is above swell threshold minus hysteresis
+    list house 9 (even 2 1000 ++ uneven 1 1300 1000 1000 ++ uneven 2 1000 1090 1000 ++ even 2 1000)
+    ⟶ events 1 (run (words 3 1 4 3 10760000 1159 0 0 ++ nines 1))
+    -- C25: begun by channel b, kept by c
+    ∷ list house 9 (even 2 1000 ++ uneven 1 1000 1300 1000 ++ uneven 2 1000 1000 1090 ++ even 2 1000)
+    ⟶ events 1 (run (words 3 1 4 3 10760000 1159 0 0 ++ nines 1))
+    -- C26: begun by channel c, kept by a
+    ∷ list house 9 (even 2 1000 ++ uneven 1 1000 1000 1300 ++ uneven 2 1090 1000 1000 ++ even 2 1000)
+    ⟶ events 1 (run (words 3 1 4 3 10760000 1159 0 0 ++ nines 1))
+    -- C27: it ends only when all are back: a first, then b, last c
+    ∷ list house 9 (even 2 1000 ++ uneven 1 1500 1400 1300 ++ uneven 1 1000 1400 1300 ++ uneven 1 1000 1000 1300 ++ even 2 1000)
+    ⟶ events 1 (run (words 3 1 5 3 15680000 1400 0 0 ++ nines 1))
+    -- C28: the extreme is the largest over channels and half-cycles: c's, in the middle
+    ∷ list house 9 (even 2 1000 ++ uneven 2 1200 1150 1150 ++ uneven 2 1150 1150 1250 ++ uneven 1 1150 1220 1150 ++ even 2 1000)
+    ⟶ events 1 (run (words 3 1 7 3 12500000 1250 0 0 ++ nines 1))
+    -- C29: channel b's
+    ∷ list house 9 (even 2 1000 ++ uneven 2 1100 1250 1200 ++ even 2 1000)
+    ⟶ events 1 (run (words 3 1 4 3 12500000 1250 0 0 ++ nines 1))
+    -- C30: hysteresis 5: channel b keeps the swell at 116 percent; in the table
+    ∷ add (blank wide) (even 2 1000 ++ uneven 1 1600 1000 1000 ++ uneven 2 1000 1160 1000 ++ even 2 1000)
+    ⟶ taken (site (table wide 6 3 3 0 none 0 0 0 1 0 0))
+    ∷ []
+
+-- ---- events of different kinds at once: by start, then kind
+
+overlaps : List Case
+overlaps =
+    -- C31: a sag and an interruption from end to end of the recording
+    list house 17 (even 3 0) ⟶ events 2 (run (words 1 0 2 0 0 0 48000000 0 ++ words 2 0 2 0 0 0 0 0 ++ nines 1))
+    -- C32: a sag and an interruption both begin the recording
+    ∷ list house 17 (even 3 0 ++ even 2 1000)
+    ⟶ events 2 (run (words 1 0 3 2 0 0 60000000 0 ++ words 2 0 2 2 0 0 0 0 ++ nines 1))
+    -- C33: a sag and an interruption start at one half-cycle, after a swell
+    ∷ list house 25 (even 2 1000 ++ even 1 1280 ++ even 3 0 ++ even 2 1000)
+    ⟶ events 3 (run (words 3 1 2 3 10553600 1148 0 0 ++ words 1 3 6 3 0 0 60000000 0 ++ words 2 3 5 3 0 0 0 0 ++ nines 1))
+    -- C34: the same, in the table
+    ∷ add (blank house) (even 2 1000 ++ even 1 1280 ++ even 3 0 ++ even 2 1000)
+    ⟶ taken (site (table house 7 3 4 0 (put 1 1 none) 0 1 1 1 0 60000000))
+    -- C35: a sag and a swell start and end together: the sag is first
+    ∷ list house 17 (even 2 1000 ++ uneven 2 1200 500 1000 ++ even 2 1000)
+    ⟶ events 2 (run (words 1 1 4 3 2000000 500 12000000 3 ++ words 3 1 4 3 11520000 1200 0 0 ++ nines 1))
+    -- C36: a sag starts and ends within a swell: the swell is first
+    ∷ list house 17 (even 2 1000 ++ uneven 1 1300 1000 1000 ++ uneven 2 1300 500 1000 ++ uneven 1 1300 1000 1000 ++ even 2 1000)
+    ⟶ events 2 (run (words 3 1 6 3 13520000 1300 0 0 ++ words 1 2 5 3 2000000 500 12000000 3 ++ nines 1))
+    -- C37: the same, in the table: each half-cycle is counted once
+    ∷ add (blank house) (even 2 1000 ++ uneven 1 1300 1000 1000 ++ uneven 2 1300 500 1000 ++ uneven 1 1300 1000 1000
+    ++ even 2 1000)
+    ⟶ taken (site (table house 7 2 5 0 (put 17 1 none) 0 1 0 1 0 12000000))
+    -- C38: a swell starts in a sag and outlasts it
+    ∷ list house 17 (even 2 1000 ++ uneven 2 1000 500 1000 ++ uneven 1 1000 500 1300 ++ uneven 2 1000 1000 1300 ++ even 2 1000)
+    ⟶ events 2 (run (words 1 1 5 3 2000000 500 18000000 5 ++ words 3 3 7 3 13520000 1300 0 0 ++ nines 1))
+    -- C39: the same, in the table
+    ∷ add (blank house) (even 2 1000 ++ uneven 2 1000 500 1000 ++ uneven 1 1000 500 1300 ++ uneven 2 1000 1000 1300
+    ++ even 2 1000)
+    ⟶ taken (site (table house 8 2 6 0 (put 17 1 none) 0 1 0 1 0 18000000))
+    -- C40: a sag with an interruption and a swell in it
+    ∷ list house 25 (even 2 1000 ++ even 2 0 ++ uneven 2 0 0 1500 ++ even 2 1000)
+    ⟶ events 3 (run (words 1 1 6 3 0 0 76000000 0 ++ words 2 2 3 3 0 0 0 0 ++ words 3 4 6 3 18000000 1500 0 0 ++ nines 1))
+    -- C41: the same, in the table: the interruption is not stray
+    ∷ add (blank house) (even 2 1000 ++ even 2 0 ++ uneven 2 0 0 1500 ++ even 2 1000)
+    ⟶ taken (site (table house 7 2 5 0 (put 1 1 none) 0 1 1 1 0 76000000))
+    ∷ []
+
+-- ---- on each mark, one unit of S above it and one below
+
+marks : List Case
+marks =
+    -- C42: hysteresis 0: channel a one unit below the sag threshold is a sag
+    list sharp 9 (even 2 1000 ++ weave (quad 1799 59 9 6) (level 4 1000) (level 4 1000) ++ uneven 1 900 1000 1000 ++ even 2 1000)
+    ⟶ events 1 (run (words 1 2 3 3 6479999 899 1520001 4 ++ nines 1))
+    -- C43: hysteresis 0: on the sag threshold, and one unit above, it is none
+    ∷ list sharp 1 (even 2 1000 ++ uneven 2 900 1000 1000 ++ weave (quad 1800 1 0 0) (level 4 1000) (level 4 1000)
+    ++ uneven 1 900 1000 1000 ++ even 2 1000)
+    ⟶ events 0 (run (nines 1))
+    -- C44: hysteresis 0: b one unit below sag threshold plus hysteresis keeps the sag, on it ends it
+    ∷ list sharp 9 (even 2 1000 ++ uneven 1 1000 500 1000 ++ uneven 1 1000 900 1000
+    ++ weave (level 4 1000) (quad 1799 59 9 6) (level 4 1000) ++ uneven 2 1000 900 1000)
+    ⟶ events 1 (run (words 1 1 5 3 4240000 728 9800002 5 ++ nines 1))
+    -- C45: hysteresis 0: one unit above ends it too
+    ∷ list sharp 9 (even 2 1000 ++ uneven 1 1000 500 1000 ++ weave (level 4 1000) (quad 1800 1 0 0) (level 4 1000)
+    ++ uneven 2 1000 900 1000)
+    ⟶ events 1 (run (words 1 1 3 3 4240001 728 6759999 5 ++ nines 1))
+    -- C46: hysteresis 0: channel b one unit below the interruption threshold, the others at 0, is an interruption
+    ∷ list sharp 17 (even 2 1000 ++ weave (level 4 0) (quad 199 19 6 1) (level 4 0) ++ uneven 1 0 100 0 ++ even 2 1000)
+    ⟶ events 2 (run (words 1 1 4 3 0 0 47840002 5 ++ words 2 2 3 3 0 0 0 0 ++ nines 1))
+    -- C47: hysteresis 0: on the interruption threshold, and one unit above, it is none
+    ∷ list sharp 9 (even 2 1000 ++ uneven 2 0 100 0 ++ weave (level 4 0) (quad 200 1 0 0) (level 4 0) ++ uneven 1 0 100 0
+    ++ even 2 1000)
+    ⟶ events 1 (run (words 1 1 6 3 0 0 95679998 5 ++ nines 1))
+    -- C48: hysteresis 0: c one unit below interruption threshold plus hysteresis keeps it, on it ends it
+    ∷ list sharp 17 (even 2 1000 ++ even 1 0 ++ uneven 1 0 0 100 ++ weave (level 4 0) (level 4 0) (quad 199 19 6 1)
+    ++ uneven 2 0 0 100 ++ even 1 1000)
+    ⟶ events 2 (run (words 1 1 7 1 0 0 119680002 6 ++ words 2 2 5 3 0 0 0 0 ++ nines 1))
+    -- C49: hysteresis 0: one unit above ends it too
+    ∷ list sharp 17 (even 2 1000 ++ even 1 0 ++ weave (level 4 0) (level 4 0) (quad 200 1 0 0) ++ uneven 2 0 0 100 ++ even 1 1000)
+    ⟶ events 2 (run (words 1 1 6 1 0 0 95759998 6 ++ words 2 2 3 3 0 0 0 0 ++ nines 1))
+    -- C50: hysteresis 0: channel c one unit above the swell threshold is a swell
+    ∷ list sharp 9 (even 2 1000 ++ weave (level 4 1000) (level 4 1000) (quad 2200 1 0 0) ++ uneven 1 1000 1000 1100
+    ++ even 2 1000)
+    ⟶ events 1 (run (words 3 2 3 3 9680001 1100 0 0 ++ nines 1))
+    -- C51: hysteresis 0: on the swell threshold, and one unit below, it is none
+    ∷ list sharp 1 (even 2 1000 ++ uneven 2 1000 1000 1100 ++ weave (level 4 1000) (level 4 1000) (quad 2199 65 13 2)
+    ++ uneven 1 1000 1000 1100 ++ even 2 1000)
+    ⟶ events 0 (run (nines 1))
+    -- C52: hysteresis 0: a one unit above swell threshold minus hysteresis keeps the swell, on it ends it
+    ∷ list sharp 9 (even 2 1000 ++ uneven 1 1500 1000 1000 ++ uneven 1 1100 1000 1000
+    ++ weave (quad 2200 1 0 0) (level 4 1000) (level 4 1000) ++ uneven 2 1100 1000 1000)
+    ⟶ events 1 (run (words 3 1 5 3 13840000 1315 0 0 ++ nines 1))
+    -- C53: hysteresis 0: one unit below ends it too
+    ∷ list sharp 9 (even 2 1000 ++ uneven 1 1500 1000 1000 ++ weave (quad 2199 65 13 2) (level 4 1000) (level 4 1000)
+    ++ uneven 2 1100 1000 1000)
+    ⟶ events 1 (run (words 3 1 3 3 13839999 1315 0 0 ++ nines 1))
+    -- C54: hysteresis 2: channel a one unit below the sag threshold is a sag
+    ∷ list house 9 (even 2 1000 ++ weave (quad 1799 59 9 6) (level 4 1000) (level 4 1000) ++ uneven 1 900 1000 1000
+    ++ even 2 1000)
+    ⟶ events 1 (run (words 1 2 3 3 6479999 899 1520001 4 ++ nines 1))
+    -- C55: hysteresis 2: on the sag threshold, and one unit above, it is none
+    ∷ list house 1 (even 2 1000 ++ uneven 2 900 1000 1000 ++ weave (quad 1800 1 0 0) (level 4 1000) (level 4 1000)
+    ++ uneven 1 900 1000 1000 ++ even 2 1000)
+    ⟶ events 0 (run (nines 1))
+    -- C56: hysteresis 2: b one unit below sag threshold plus hysteresis keeps the sag, on it ends it
+    ∷ list house 9 (even 2 1000 ++ uneven 1 1000 500 1000 ++ uneven 1 1000 920 1000
+    ++ weave (level 4 1000) (quad 1839 59 14 1) (level 4 1000) ++ uneven 2 1000 920 1000)
+    ⟶ events 1 (run (words 1 1 5 3 4385600 740 6614400 5 ++ nines 1))
+    -- C57: hysteresis 2: one unit above ends it too
+    ∷ list house 9 (even 2 1000 ++ uneven 1 1000 500 1000 ++ weave (level 4 1000) (quad 1840 1 0 0) (level 4 1000)
+    ++ uneven 2 1000 920 1000)
+    ⟶ events 1 (run (words 1 1 3 3 4385601 740 6614399 5 ++ nines 1))
+    -- C58: hysteresis 2: channel b one unit below the interruption threshold, the others at 0, is an interruption
+    ∷ list house 17 (even 2 1000 ++ weave (level 4 0) (quad 199 19 6 1) (level 4 0) ++ uneven 1 0 100 0 ++ even 2 1000)
+    ⟶ events 2 (run (words 1 1 4 3 0 0 47840002 5 ++ words 2 2 3 3 0 0 0 0 ++ nines 1))
+    -- C59: hysteresis 2: on the interruption threshold, and one unit above, it is none
+    ∷ list house 9 (even 2 1000 ++ uneven 2 0 100 0 ++ weave (level 4 0) (quad 200 1 0 0) (level 4 0) ++ uneven 1 0 100 0
+    ++ even 2 1000)
+    ⟶ events 1 (run (words 1 1 6 3 0 0 95679998 5 ++ nines 1))
+    -- C60: hysteresis 2: c one unit below interruption threshold plus hysteresis keeps it, on it ends it
+    ∷ list house 17 (even 2 1000 ++ even 1 0 ++ uneven 1 0 0 120 ++ weave (level 4 0) (level 4 0) (quad 239 21 6 1)
+    ++ uneven 2 0 0 120 ++ even 1 1000)
+    ⟶ events 2 (run (words 1 1 7 1 0 0 119539202 6 ++ words 2 2 5 3 0 0 0 0 ++ nines 1))
+    -- C61: hysteresis 2: one unit above ends it too
+    ∷ list house 17 (even 2 1000 ++ even 1 0 ++ weave (level 4 0) (level 4 0) (quad 240 1 0 0) ++ uneven 2 0 0 120 ++ even 1 1000)
+    ⟶ events 2 (run (words 1 1 6 1 0 0 95654398 6 ++ words 2 2 3 3 0 0 0 0 ++ nines 1))
+    -- C62: hysteresis 2: channel c one unit above the swell threshold is a swell
+    ∷ list house 9 (even 2 1000 ++ weave (level 4 1000) (level 4 1000) (quad 2200 1 0 0) ++ uneven 1 1000 1000 1100
+    ++ even 2 1000)
+    ⟶ events 1 (run (words 3 2 3 3 9680001 1100 0 0 ++ nines 1))
+    -- C63: hysteresis 2: on the swell threshold, and one unit below, it is none
+    ∷ list house 1 (even 2 1000 ++ uneven 2 1000 1000 1100 ++ weave (level 4 1000) (level 4 1000) (quad 2199 65 13 2)
+    ++ uneven 1 1000 1000 1100 ++ even 2 1000)
+    ⟶ events 0 (run (nines 1))
+    -- C64: hysteresis 2: a one unit above swell threshold minus hysteresis keeps the swell, on it ends it
+    ∷ list house 9 (even 2 1000 ++ uneven 1 1500 1000 1000 ++ uneven 1 1080 1000 1000
+    ++ weave (quad 2160 1 0 0) (level 4 1000) (level 4 1000) ++ uneven 2 1080 1000 1000)
+    ⟶ events 1 (run (words 3 1 5 3 13665600 1306 0 0 ++ nines 1))
+    -- C65: hysteresis 2: one unit below ends it too
+    ∷ list house 9 (even 2 1000 ++ uneven 1 1500 1000 1000 ++ weave (quad 2159 63 18 5) (level 4 1000) (level 4 1000)
+    ++ uneven 2 1080 1000 1000)
+    ⟶ events 1 (run (words 3 1 3 3 13665599 1306 0 0 ++ nines 1))
+    -- C66: hysteresis 5: channel a one unit below the sag threshold is a sag
+    ∷ list wide 9 (even 2 1000 ++ weave (quad 1599 55 13 2) (level 4 1000) (level 4 1000) ++ uneven 1 800 1000 1000
+    ++ even 2 1000)
+    ⟶ events 1 (run (words 1 2 3 3 5119999 799 2880001 4 ++ nines 1))
+    -- C67: hysteresis 5: on the sag threshold, and one unit above, it is none
+    ∷ list wide 1 (even 2 1000 ++ uneven 2 800 1000 1000 ++ weave (quad 1600 1 0 0) (level 4 1000) (level 4 1000)
+    ++ uneven 1 800 1000 1000 ++ even 2 1000)
+    ⟶ events 0 (run (nines 1))
+    -- C68: hysteresis 5: b one unit below sag threshold plus hysteresis keeps the sag, on it ends it
+    ∷ list wide 9 (even 2 1000 ++ uneven 1 1000 500 1000 ++ uneven 1 1000 850 1000
+    ++ weave (level 4 1000) (quad 1699 58 5 3) (level 4 1000) ++ uneven 2 1000 850 1000)
+    ⟶ events 1 (run (words 1 1 5 3 3890000 697 7110000 5 ++ nines 1))
+    -- C69: hysteresis 5: one unit above ends it too
+    ∷ list wide 9 (even 2 1000 ++ uneven 1 1000 500 1000 ++ weave (level 4 1000) (quad 1700 1 0 0) (level 4 1000)
+    ++ uneven 2 1000 850 1000)
+    ⟶ events 1 (run (words 1 1 3 3 3890001 697 7109999 5 ++ nines 1))
+    -- C70: hysteresis 5: channel b one unit below the interruption threshold, the others at 0, is an interruption
+    ∷ list wide 17 (even 2 1000 ++ weave (level 4 0) (quad 399 26 11 1) (level 4 0) ++ uneven 1 0 200 0 ++ even 2 1000)
+    ⟶ events 2 (run (words 1 1 4 3 0 0 47360002 5 ++ words 2 2 3 3 0 0 0 0 ++ nines 1))
+    -- C71: hysteresis 5: on the interruption threshold, and one unit above, it is none
+    ∷ list wide 9 (even 2 1000 ++ uneven 2 0 200 0 ++ weave (level 4 0) (quad 400 1 0 0) (level 4 0) ++ uneven 1 0 200 0
+    ++ even 2 1000)
+    ⟶ events 1 (run (words 1 1 6 3 0 0 94719998 5 ++ nines 1))
+    -- C72: hysteresis 5: c one unit below interruption threshold plus hysteresis keeps it, on it ends it
+    ∷ list wide 17 (even 2 1000 ++ even 1 0 ++ uneven 1 0 0 250 ++ weave (level 4 0) (level 4 0) (quad 499 31 6 1)
+    ++ uneven 2 0 0 250 ++ even 1 1000)
+    ⟶ events 2 (run (words 1 1 7 1 0 0 118000002 6 ++ words 2 2 5 3 0 0 0 0 ++ nines 1))
+    -- C73: hysteresis 5: one unit above ends it too
+    ∷ list wide 17 (even 2 1000 ++ even 1 0 ++ weave (level 4 0) (level 4 0) (quad 500 1 0 0) ++ uneven 2 0 0 250 ++ even 1 1000)
+    ⟶ events 2 (run (words 1 1 6 1 0 0 94499998 6 ++ words 2 2 3 3 0 0 0 0 ++ nines 1))
+    -- C74: hysteresis 5: channel c one unit above the swell threshold is a swell
+    ∷ list wide 9 (even 2 1000 ++ weave (level 4 1000) (level 4 1000) (quad 2400 1 0 0) ++ uneven 1 1000 1000 1200 ++ even 2 1000)
+    ⟶ events 1 (run (words 3 2 3 3 11520001 1200 0 0 ++ nines 1))
+    -- C75: hysteresis 5: on the swell threshold, and one unit below, it is none
+    ∷ list wide 1 (even 2 1000 ++ uneven 2 1000 1000 1200 ++ weave (level 4 1000) (level 4 1000) (quad 2399 69 6 1)
+    ++ uneven 1 1000 1000 1200 ++ even 2 1000)
+    ⟶ events 0 (run (nines 1))
+    -- C76: hysteresis 5: a one unit above swell threshold minus hysteresis keeps the swell, on it ends it
+    ∷ list wide 9 (even 2 1000 ++ uneven 1 1500 1000 1000 ++ uneven 1 1150 1000 1000
+    ++ weave (quad 2300 1 0 0) (level 4 1000) (level 4 1000) ++ uneven 2 1150 1000 1000)
+    ⟶ events 1 (run (words 3 1 5 3 14290000 1336 0 0 ++ nines 1))
+    -- C77: hysteresis 5: one unit below ends it too
+    ∷ list wide 9 (even 2 1000 ++ uneven 1 1500 1000 1000 ++ weave (quad 2299 67 10 3) (level 4 1000) (level 4 1000)
+    ++ uneven 2 1150 1000 1000)
+    ⟶ events 1 (run (words 3 1 3 3 14289999 1336 0 0 ++ nines 1))
+    -- C78: N 10, R 1001: 85 percent is an S of 7239457.225, and the whole number below it a sag
+    ∷ list ten 9 (alike 10 1001 1001 1001
+    ++ weave (level 5 1001) (pos 1701 ∷ pos 29 ∷ pos 3 ∷ pos 0 ∷ pos 851 ∷ []) (level 5 1001)
+    ++ weave (level 5 1001) (level 5 851) (level 5 1001) ++ alike 10 1001 1001 1001)
+    ⟶ events 1 (run (words 1 2 3 3 7239457 849 2780553 5 ++ nines 1))
+    -- C79: and the one above it none
+    ∷ list ten 1 (alike 10 1001 1001 1001
+    ++ weave (level 5 1001) (pos 1701 ∷ pos 29 ∷ pos 3 ∷ pos 1 ∷ pos 851 ∷ []) (level 5 1001)
+    ++ weave (level 5 1001) (level 5 851) (level 5 1001) ++ alike 10 1001 1001 1001)
+    ⟶ events 0 (run (nines 1))
+    ∷ []
+
+-- ---- missing samples
+
+gaps : List Case
+gaps =
+    -- C80: a gap on channel b cuts a sag: neither part has both ends seen
+    list house 17 (set (even 2 1000 ++ even 4 500 ++ even 2 1000) 49 lost)
+    ⟶ events 2 (run (words 1 1 3 1 2000000 500 27000000 0 ++ words 1 5 6 2 5000000 790 9000000 0 ++ nines 1))
+    -- C81: a gap on channel c, in the last sample of the block
+    ∷ list house 17 (set (even 2 1000 ++ even 4 500 ++ even 2 1000) 59 lost)
+    ⟶ events 2 (run (words 1 1 3 1 2000000 500 27000000 0 ++ words 1 5 6 2 5000000 790 9000000 0 ++ nines 1))
+    -- C82: a gap on channel c cuts a sag and an interruption
+    ∷ list house 33 (set (even 2 1000 ++ even 6 0 ++ even 2 1000) 65 lost)
+    ⟶ events 4 (run (words 1 1 4 1 0 0 60000000 0 ++ words 2 2 4 1 0 0 0 0 ++ words 1 6 8 2 0 0 36000000 0
+    ++ words 2 6 7 2 0 0 0 0 ++ nines 1))
+    -- C83: the same, in the table: two of each, the sags unplaced
+    ∷ add (blank house) (set (even 2 1000 ++ even 6 0 ++ even 2 1000) 65 lost)
+    ⟶ taken (site (table house 9 2 5 2 none 2 2 2 0 0 96000000))
+    -- C84: a gap on channel b cuts a swell
+    ∷ list house 17 (set (even 2 1000 ++ even 4 1300 ++ even 2 1000) 55 lost)
+    ⟶ events 2 (run (words 3 1 3 1 13520000 1300 0 0 ++ words 3 5 6 2 10760000 1159 0 0 ++ nines 1))
+    -- C85: the same, in the table
+    ∷ add (blank house) (set (even 2 1000 ++ even 4 1300 ++ even 2 1000) 55 lost)
+    ⟶ taken (site (table house 7 2 3 2 none 0 0 0 2 0 0))
+    -- C86: a gap in the block before a sag: its start is unseen
+    ∷ list house 9 (set (even 2 1000 ++ uneven 2 1000 1000 500 ++ even 2 1000) 13 lost)
+    ⟶ events 1 (run (words 1 2 4 2 2000000 500 9000000 6 ++ nines 1))
+    -- C87: a gap a block earlier: the half-cycle before the start is unknown still
+    ∷ list house 9 (set (even 2 1000 ++ uneven 2 1000 1000 500 ++ even 2 1000) 1 lost)
+    ⟶ events 1 (run (words 1 1 4 2 2000000 500 12000000 6 ++ nines 1))
+    -- C88: another block earlier: the start is seen
+    ∷ list house 9 (set (even 3 1000 ++ uneven 2 1000 1000 500 ++ even 2 1000) 1 lost)
+    ⟶ events 1 (run (words 1 2 5 3 2000000 500 12000000 6 ++ nines 1))
+    -- C89: a gap in the block after a sag: its end is unseen
+    ∷ list house 9 (set (even 2 1000 ++ uneven 2 1000 1000 500 ++ even 2 1000) 49 lost)
+    ⟶ events 1 (run (words 1 1 3 1 2000000 500 9000000 6 ++ nines 1))
+    -- C90: a gap a block later: the half-cycle at the end is unknown still
+    ∷ list house 9 (set (even 2 1000 ++ uneven 2 1000 1000 500 ++ even 2 1000) 61 lost)
+    ⟶ events 1 (run (words 1 1 4 1 2000000 500 12000000 6 ++ nines 1))
+    -- C91: another block later: the end is seen
+    ∷ list house 9 (set (even 2 1000 ++ uneven 2 1000 1000 500 ++ even 3 1000) 73 lost)
+    ⟶ events 1 (run (words 1 1 4 3 2000000 500 12000000 6 ++ nines 1))
+    -- C92: the same, in the table: the sag has its cell, and one half-cycle is unknown
+    ∷ add (blank house) (set (even 2 1000 ++ uneven 2 1000 1000 500 ++ even 3 1000) 73 lost)
+    ⟶ taken (site (table house 6 2 3 1 (put 17 1 none) 0 1 0 0 0 12000000))
+    -- C93: a sag whose start is unseen is unplaced
+    ∷ add (blank house) (set (even 2 1000 ++ uneven 2 1000 1000 500 ++ even 2 1000) 13 lost)
+    ⟶ taken (site (table house 5 1 2 2 none 1 1 0 0 0 9000000))
+    -- C94: a sag whose end is unseen is unplaced
+    ∷ add (blank house) (set (even 2 1000 ++ uneven 2 1000 1000 500 ++ even 2 1000) 61 lost)
+    ⟶ taken (site (table house 5 1 3 1 none 1 1 0 0 0 12000000))
+    -- C95: after a gap, 91 percent is no sag: nothing is carried over it
+    ∷ list house 9 (set (even 2 1000 ++ even 1 500 ++ even 4 910 ++ even 2 1000) 48 lost)
+    ⟶ events 1 (run (words 1 1 3 1 4312400 734 20062800 0 ++ nines 1))
+    -- C96: the same, in the table
+    ∷ add (blank house) (set (even 2 1000 ++ even 1 500 ++ even 4 910 ++ even 2 1000) 48 lost)
+    ⟶ taken (site (table house 8 4 2 2 none 1 1 0 0 0 20062800))
+    -- C97: after a gap, 109 percent is no swell
+    ∷ list house 9 (set (even 2 1000 ++ even 1 1500 ++ even 4 1090 ++ even 2 1000) 48 lost)
+    ⟶ events 1 (run (words 3 1 3 1 13752400 1311 0 0 ++ nines 1))
+    -- C98: one lost sample makes both half-cycles unknown: no event
+    ∷ list house 1 (set (even 3 500) 16 lost) ⟶ events 0 (run (nines 1))
+    -- C99: the same, in the table
+    ∷ add (blank house) (set (even 3 500) 16 lost) ⟶ taken (site (table house 2 0 0 2 none 0 0 0 0 0 0))
+    -- C100: the first sample of all lost
+    ∷ list house 9 (set (even 4 500) 0 lost) ⟶ events 1 (run (words 1 1 3 0 2000000 500 36000000 0 ++ nines 1))
+    -- C101: the last sample of all lost
+    ∷ list wide 9 (set (even 4 500) 47 lost) ⟶ events 1 (run (words 1 0 2 0 2000000 500 36000000 0 ++ nines 1))
+    -- C102: a gap at either end of a calm recording
+    ∷ add (blank wide) (set (set (even 6 1000) 8 lost) 70 lost) ⟶ taken (site (table wide 5 3 0 2 none 0 0 0 0 0 0))
+    ∷ []
+
+-- ---- sag types
+
+types : List Case
+types =
+    -- C103: a in the middle of b and c: type 1
+    list house 9 (even 2 1000 ++ uneven 2 600 200 1000 ++ even 2 1000)
+    ⟶ events 1 (run (words 1 1 4 3 320000 200 25600000 1 ++ nines 1))
+    -- C104: b in the middle: type 2
+    ∷ list house 9 (even 2 1000 ++ uneven 2 200 600 1000 ++ even 2 1000)
+    ⟶ events 1 (run (words 1 1 4 3 320000 200 25600000 2 ++ nines 1))
+    -- C105: c in the middle: type 3
+    ∷ list house 9 (even 2 1000 ++ uneven 2 1000 200 600 ++ even 2 1000)
+    ⟶ events 1 (run (words 1 1 4 3 320000 200 25600000 3 ++ nines 1))
+    -- C106: b and c equal: type 4
+    ∷ list house 9 (even 2 1000 ++ uneven 2 300 800 800 ++ even 2 1000)
+    ⟶ events 1 (run (words 1 1 4 3 720000 300 20320000 4 ++ nines 1))
+    -- C107: c and a equal: type 5
+    ∷ list house 9 (even 2 1000 ++ uneven 2 800 300 800 ++ even 2 1000)
+    ⟶ events 1 (run (words 1 1 4 3 720000 300 20320000 5 ++ nines 1))
+    -- C108: a and b equal: type 6
+    ∷ list house 9 (even 2 1000 ++ uneven 2 800 800 300 ++ even 2 1000)
+    ⟶ events 1 (run (words 1 1 4 3 720000 300 20320000 6 ++ nines 1))
+    -- C109: all samples negative: type 1 as with positive ones
+    ∷ list house 9 (even 2 1000 ++ mirror (uneven 2 600 200 1000) ++ even 2 1000)
+    ⟶ events 1 (run (words 1 1 4 3 320000 200 25600000 1 ++ nines 1))
+    -- C110: b and c of opposite signs, a at 0: type 1
+    ∷ list house 9 (even 2 1000 ++ weave (level 4 0) (level 4 800) (mirror (level 4 800))
+    ++ weave (level 4 0) (level 4 800) (mirror (level 4 800)) ++ even 2 1000)
+    ⟶ events 1 (run (words 1 1 4 3 0 0 21760000 1 ++ nines 1))
+    -- C111: N 10: a and b equal, type 6
+    ∷ list ten 9 (alike 10 1001 1001 1001 ++ alike 10 900 900 400 ++ alike 10 1001 1001 1001)
+    ⟶ events 1 (run (words 1 1 4 3 1600000 399 16840020 6 ++ nines 1))
+    -- C112: sines, all three lower: type 0
+    ∷ list house 9 (sines 1000 1000 1000 ++ sines 600 600 600)
+    ⟶ events 1 (run (words 1 1 3 1 2877446 599 23050182 0 ++ nines 1))
+    -- C113: sines, a lower: type 1
+    ∷ list house 9 (sines 1000 1000 1000 ++ sines 500 1000 1000)
+    ⟶ events 1 (run (words 1 1 3 1 1999698 499 9001057 1 ++ nines 1))
+    -- C114: sines, b lower: type 2
+    ∷ list house 9 (sines 1000 1000 1000 ++ sines 1000 500 1000)
+    ⟶ events 1 (run (words 1 1 3 1 1998262 499 9002221 2 ++ nines 1))
+    -- C115: sines, c lower: type 3
+    ∷ list house 9 (sines 1000 1000 1000 ++ sines 1000 1000 500)
+    ⟶ events 1 (run (words 1 1 3 1 1998262 499 9002221 3 ++ nines 1))
+    -- C116: sines, b and c lower: type 4
+    ∷ list house 9 (sines 1000 1000 1000 ++ sines 1000 500 500)
+    ⟶ events 1 (run (words 1 1 3 1 1998262 499 18004442 4 ++ nines 1))
+    -- C117: sines, c and a lower: type 5
+    ∷ list house 9 (sines 1000 1000 1000 ++ sines 500 1000 500)
+    ⟶ events 1 (run (words 1 1 3 1 1998262 499 18003278 5 ++ nines 1))
+    -- C118: sines, a and b lower: type 6
+    ∷ list house 9 (sines 1000 1000 1000 ++ sines 500 500 1000)
+    ⟶ events 1 (run (words 1 1 3 1 1998262 499 18003278 6 ++ nines 1))
+    -- C119: 100 x smallest, a fourth sum, is exactly 81 x largest: type 0
+    ∷ list house 9 (even 2 1000 ++ alike 3 500 0 0 ++ alike 1 450 900 0 ++ alike 3 500 0 0 ++ alike 1 450 900 0 ++ even 2 1000)
+    ⟶ events 1 (run (words 1 1 4 3 0 0 40950000 0 ++ nines 1))
+    -- C120: the largest a little larger: type 4
+    ∷ list house 9 (even 2 1000 ++ alike 3 500 0 0 ++ alike 1 450 900 0 ++ alike 1 501 0 0 ++ alike 2 500 0 0 ++ alike 1 450 900 0
+    ++ even 2 1000)
+    ⟶ events 1 (run (words 1 1 4 3 0 0 40947998 4 ++ nines 1))
+    -- C121: a little smaller: type 0
+    ∷ list house 9 (even 2 1000 ++ alike 3 500 0 0 ++ alike 1 450 900 0 ++ alike 1 499 0 0 ++ alike 2 500 0 0 ++ alike 1 450 900 0
+    ++ even 2 1000)
+    ⟶ events 1 (run (words 1 1 4 3 0 0 40951998 0 ++ nines 1))
+    -- C122: 100 x smallest, a first sum, is exactly 81 x largest: type 0
+    ∷ list house 9 (even 2 1000 ++ alike 3 450 0 0 ++ alike 1 500 1000 0 ++ alike 3 450 0 0 ++ alike 1 500 1000 0 ++ even 2 1000)
+    ⟶ events 1 (run (words 1 1 4 3 0 0 40570000 0 ++ nines 1))
+    -- C123: the smallest a little smaller: type 1
+    ∷ list house 9 (even 2 1000 ++ alike 3 450 0 0 ++ alike 1 500 1000 0 ++ alike 1 449 0 0 ++ alike 2 450 0 0
+    ++ alike 1 500 1000 0 ++ even 2 1000)
+    ⟶ events 1 (run (words 1 1 4 3 0 0 40571798 1 ++ nines 1))
+    -- C124: a little larger: type 0
+    ∷ list house 9 (even 2 1000 ++ alike 3 450 0 0 ++ alike 1 500 1000 0 ++ alike 1 451 0 0 ++ alike 2 450 0 0
+    ++ alike 1 500 1000 0 ++ even 2 1000)
+    ⟶ events 1 (run (words 1 1 4 3 0 0 40568198 0 ++ nines 1))
+    -- C125: third and fourth sum equally small: type 3
+    ∷ list house 9 (even 2 1000 ++ alike 1 0 600 300 ++ alike 3 300 0 0 ++ alike 1 0 600 300 ++ alike 3 300 0 0 ++ even 2 1000)
+    ⟶ events 1 (run (words 1 1 4 3 180000 150 45120000 3 ++ nines 1))
+    -- C126: first and fifth sum equally small: type 1
+    ∷ list house 9 (even 2 1000 ++ alike 1 300 0 600 ++ alike 3 0 300 0 ++ alike 1 300 0 600 ++ alike 3 0 300 0 ++ even 2 1000)
+    ⟶ events 1 (run (words 1 1 4 3 180000 150 45120000 1 ++ nines 1))
+    -- C127: second and sixth sum equally small: type 2
+    ∷ list house 9 (even 2 1000 ++ alike 1 600 300 0 ++ alike 3 0 0 300 ++ alike 1 600 300 0 ++ alike 3 0 0 300 ++ even 2 1000)
+    ⟶ events 1 (run (words 1 1 4 3 180000 150 45120000 2 ++ nines 1))
+    -- C128: the same extreme twice, first a's and then b's: the earliest decides, type 4
+    ∷ list house 9 (even 2 1000 ++ uneven 2 500 1000 1000 ++ uneven 2 1000 500 1000 ++ even 2 1000)
+    ⟶ events 1 (run (words 1 1 6 3 2000000 500 24000000 4 ++ nines 1))
+    -- C129: first b's and then a's: type 5
+    ∷ list house 9 (even 2 1000 ++ uneven 2 1000 500 1000 ++ uneven 2 500 1000 1000 ++ even 2 1000)
+    ⟶ events 1 (run (words 1 1 6 3 2000000 500 24000000 5 ++ nines 1))
+    -- C130: the sag begins as type 6, but its extreme decides: type 5
+    ∷ list house 9 (even 2 1000 ++ uneven 2 1000 1000 800 ++ uneven 2 1000 400 1000 ++ even 2 1000)
+    ⟶ events 1 (run (words 1 2 6 3 1280000 400 16320000 5 ++ nines 1))
+    -- C131: the same extreme three times, of one channel: the earliest decides, type 1
+    ∷ list house 9 (even 2 1000 ++ uneven 3 600 300 900 ++ uneven 2 500 300 500 ++ even 2 1000)
+    ⟶ events 1 (run (words 1 1 7 3 720000 300 76520000 1 ++ nines 1))
+    ∷ []
+
+-- ---- curve and columns on both sides of every border; the curve shows in the severity
+
+durations : List Case
+durations =
+    -- C132: f 50, h 1: below 2, column 0 (severity 0.5, energy 0.015)
+    score house (event 1 7 8 3 2000000 500 12000000 4) ⟶ scored 0x3fe0_0000_0000_0000 0x3f8e_b851_eb85_1eb8 16
+    -- C133: f 50, h 2: column 1; the curve is 0 (severity 0.5, energy 0.015)
+    ∷ score house (event 1 7 9 3 2000000 500 12000000 4) ⟶ scored 0x3fe0_0000_0000_0000 0x3f8e_b851_eb85_1eb8 17
+    -- C134: f 50, h 3: the curve is 500 (severity 1, energy 0.015)
+    ∷ score house (event 1 7 10 3 2000000 500 12000000 4) ⟶ scored 0x3ff0_0000_0000_0000 0x3f8e_b851_eb85_1eb8 17
+    -- C135: f 50, h 9: 5h below f, column 1 (severity 1, energy 0.015)
+    ∷ score house (event 1 7 16 3 2000000 500 12000000 4) ⟶ scored 0x3ff0_0000_0000_0000 0x3f8e_b851_eb85_1eb8 17
+    -- C136: f 50, h 10: 5h = f, column 2 (severity 1, energy 0.015)
+    ∷ score house (event 1 7 17 3 2000000 500 12000000 4) ⟶ scored 0x3ff0_0000_0000_0000 0x3f8e_b851_eb85_1eb8 18
+    -- C137: f 50, h 20: 5h = 2f, the curve is 500 (severity 1, energy 0.015)
+    ∷ score house (event 1 7 27 3 2000000 500 12000000 4) ⟶ scored 0x3ff0_0000_0000_0000 0x3f8e_b851_eb85_1eb8 18
+    -- C138: f 50, h 21: the curve is 700 (severity 1.6666666666666667, energy 0.015)
+    ∷ score house (event 1 7 28 3 2000000 500 12000000 4) ⟶ scored 0x3ffa_aaaa_aaaa_aaab 0x3f8e_b851_eb85_1eb8 18
+    -- C139: f 50, h 49: below f, column 2 (severity 1.6666666666666667, energy 0.015)
+    ∷ score house (event 1 7 56 3 2000000 500 12000000 4) ⟶ scored 0x3ffa_aaaa_aaaa_aaab 0x3f8e_b851_eb85_1eb8 18
+    -- C140: f 50, h 50: h = f, column 3; the curve is 700 (severity 1.6666666666666667, energy 0.015)
+    ∷ score house (event 1 7 57 3 2000000 500 12000000 4) ⟶ scored 0x3ffa_aaaa_aaaa_aaab 0x3f8e_b851_eb85_1eb8 19
+    -- C141: f 50, h 51: the curve is 800 (severity 2.5, energy 0.015)
+    ∷ score house (event 1 7 58 3 2000000 500 12000000 4) ⟶ scored 0x4004_0000_0000_0000 0x3f8e_b851_eb85_1eb8 19
+    -- C142: f 50, h 99: below 2f, column 3 (severity 2.5, energy 0.015)
+    ∷ score house (event 1 7 106 3 2000000 500 12000000 4) ⟶ scored 0x4004_0000_0000_0000 0x3f8e_b851_eb85_1eb8 19
+    -- C143: f 50, h 100: h = 2f, column 4 (severity 2.5, energy 0.015)
+    ∷ score house (event 1 7 107 3 2000000 500 12000000 4) ⟶ scored 0x4004_0000_0000_0000 0x3f8e_b851_eb85_1eb8 20
+    -- C144: f 50, h 299: below 6f, column 4 (severity 2.5, energy 0.015)
+    ∷ score house (event 1 7 306 3 2000000 500 12000000 4) ⟶ scored 0x4004_0000_0000_0000 0x3f8e_b851_eb85_1eb8 20
+    -- C145: f 50, h 300: h = 6f, column 5 (severity 2.5, energy 0.015)
+    ∷ score house (event 1 7 307 3 2000000 500 12000000 4) ⟶ scored 0x4004_0000_0000_0000 0x3f8e_b851_eb85_1eb8 21
+    -- C146: f 50, h 1999: below 40f, column 5 (severity 2.5, energy 0.015)
+    ∷ score house (event 1 7 2006 3 2000000 500 12000000 4) ⟶ scored 0x4004_0000_0000_0000 0x3f8e_b851_eb85_1eb8 21
+    -- C147: f 50, h 2000: h = 40f, column 6 (severity 2.5, energy 0.015)
+    ∷ score house (event 1 7 2007 3 2000000 500 12000000 4) ⟶ scored 0x4004_0000_0000_0000 0x3f8e_b851_eb85_1eb8 22
+    -- C148: f 50, h 5999: below 120f, column 6 (severity 2.5, energy 0.015)
+    ∷ score house (event 1 7 6006 3 2000000 500 12000000 4) ⟶ scored 0x4004_0000_0000_0000 0x3f8e_b851_eb85_1eb8 22
+    -- C149: f 50, h 6000: h = 120f, column 7 (severity 2.5, energy 0.015)
+    ∷ score house (event 1 7 6007 3 2000000 500 12000000 4) ⟶ scored 0x4004_0000_0000_0000 0x3f8e_b851_eb85_1eb8 23
+    -- C150: f 60, h 1: below 2, column 0 (severity 0.5, energy 0.012)
+    ∷ score wide (event 1 7 8 3 2000000 500 12000000 4) ⟶ scored 0x3fe0_0000_0000_0000 0x3f88_9374_bc6a_7efa 16
+    -- C151: f 60, h 2: column 1; the curve is 0 (severity 0.5, energy 0.012)
+    ∷ score wide (event 1 7 9 3 2000000 500 12000000 4) ⟶ scored 0x3fe0_0000_0000_0000 0x3f88_9374_bc6a_7efa 17
+    -- C152: f 60, h 3: the curve is 500 (severity 1, energy 0.012)
+    ∷ score wide (event 1 7 10 3 2000000 500 12000000 4) ⟶ scored 0x3ff0_0000_0000_0000 0x3f88_9374_bc6a_7efa 17
+    -- C153: f 60, h 11: 5h below f, column 1 (severity 1, energy 0.012)
+    ∷ score wide (event 1 7 18 3 2000000 500 12000000 4) ⟶ scored 0x3ff0_0000_0000_0000 0x3f88_9374_bc6a_7efa 17
+    -- C154: f 60, h 12: 5h = f, column 2 (severity 1, energy 0.012)
+    ∷ score wide (event 1 7 19 3 2000000 500 12000000 4) ⟶ scored 0x3ff0_0000_0000_0000 0x3f88_9374_bc6a_7efa 18
+    -- C155: f 60, h 24: 5h = 2f, the curve is 500 (severity 1, energy 0.012)
+    ∷ score wide (event 1 7 31 3 2000000 500 12000000 4) ⟶ scored 0x3ff0_0000_0000_0000 0x3f88_9374_bc6a_7efa 18
+    -- C156: f 60, h 25: the curve is 700 (severity 1.6666666666666667, energy 0.012)
+    ∷ score wide (event 1 7 32 3 2000000 500 12000000 4) ⟶ scored 0x3ffa_aaaa_aaaa_aaab 0x3f88_9374_bc6a_7efa 18
+    -- C157: f 60, h 59: below f, column 2 (severity 1.6666666666666667, energy 0.012)
+    ∷ score wide (event 1 7 66 3 2000000 500 12000000 4) ⟶ scored 0x3ffa_aaaa_aaaa_aaab 0x3f88_9374_bc6a_7efa 18
+    -- C158: f 60, h 60: h = f, column 3; the curve is 700 (severity 1.6666666666666667, energy 0.012)
+    ∷ score wide (event 1 7 67 3 2000000 500 12000000 4) ⟶ scored 0x3ffa_aaaa_aaaa_aaab 0x3f88_9374_bc6a_7efa 19
+    -- C159: f 60, h 61: the curve is 800 (severity 2.5, energy 0.012)
+    ∷ score wide (event 1 7 68 3 2000000 500 12000000 4) ⟶ scored 0x4004_0000_0000_0000 0x3f88_9374_bc6a_7efa 19
+    -- C160: f 60, h 119: below 2f, column 3 (severity 2.5, energy 0.012)
+    ∷ score wide (event 1 7 126 3 2000000 500 12000000 4) ⟶ scored 0x4004_0000_0000_0000 0x3f88_9374_bc6a_7efa 19
+    -- C161: f 60, h 120: h = 2f, column 4 (severity 2.5, energy 0.012)
+    ∷ score wide (event 1 7 127 3 2000000 500 12000000 4) ⟶ scored 0x4004_0000_0000_0000 0x3f88_9374_bc6a_7efa 20
+    -- C162: f 60, h 359: below 6f, column 4 (severity 2.5, energy 0.012)
+    ∷ score wide (event 1 7 366 3 2000000 500 12000000 4) ⟶ scored 0x4004_0000_0000_0000 0x3f88_9374_bc6a_7efa 20
+    -- C163: f 60, h 360: h = 6f, column 5 (severity 2.5, energy 0.012)
+    ∷ score wide (event 1 7 367 3 2000000 500 12000000 4) ⟶ scored 0x4004_0000_0000_0000 0x3f88_9374_bc6a_7efa 21
+    -- C164: f 60, h 2399: below 40f, column 5 (severity 2.5, energy 0.012)
+    ∷ score wide (event 1 7 2406 3 2000000 500 12000000 4) ⟶ scored 0x4004_0000_0000_0000 0x3f88_9374_bc6a_7efa 21
+    -- C165: f 60, h 2400: h = 40f, column 6 (severity 2.5, energy 0.012)
+    ∷ score wide (event 1 7 2407 3 2000000 500 12000000 4) ⟶ scored 0x4004_0000_0000_0000 0x3f88_9374_bc6a_7efa 22
+    -- C166: f 60, h 7199: below 120f, column 6 (severity 2.5, energy 0.012)
+    ∷ score wide (event 1 7 7206 3 2000000 500 12000000 4) ⟶ scored 0x4004_0000_0000_0000 0x3f88_9374_bc6a_7efa 22
+    -- C167: f 60, h 7200: h = 120f, column 7 (severity 2.5, energy 0.012)
+    ∷ score wide (event 1 7 7207 3 2000000 500 12000000 4) ⟶ scored 0x4004_0000_0000_0000 0x3f88_9374_bc6a_7efa 23
+    ∷ []
+
+-- ---- rows on both sides of every border
+
+depths : List Case
+depths =
+    -- C168: nothing left: row 0 (severity 1, energy 0)
+    score house (event 1 7 9 3 0 0 1 4) ⟶ scored 0x3ff0_0000_0000_0000 0x0000_0000_0000_0000 1
+    -- C169: exactly 10 percent: row 0 (severity 0.9, energy 0)
+    ∷ score house (event 1 7 9 3 80000 100 1 4) ⟶ scored 0x3fec_cccc_cccc_cccd 0x0000_0000_0000_0000 1
+    -- C170: one unit above: row 1 (severity 0.9, energy 0)
+    ∷ score house (event 1 7 9 3 80001 100 1 4) ⟶ scored 0x3fec_cccc_cccc_cccd 0x0000_0000_0000_0000 9
+    -- C171: exactly 40 percent: row 1 (severity 0.6, energy 0)
+    ∷ score house (event 1 7 9 3 1280000 400 1 4) ⟶ scored 0x3fe3_3333_3333_3333 0x0000_0000_0000_0000 9
+    -- C172: one unit above: row 2 (severity 0.6, energy 0)
+    ∷ score house (event 1 7 9 3 1280001 400 1 4) ⟶ scored 0x3fe3_3333_3333_3333 0x0000_0000_0000_0000 17
+    -- C173: exactly 70 percent: row 2 (severity 0.3, energy 0)
+    ∷ score house (event 1 7 9 3 3920000 700 1 4) ⟶ scored 0x3fd3_3333_3333_3333 0x0000_0000_0000_0000 17
+    -- C174: one unit above: row 3 (severity 0.3, energy 0)
+    ∷ score house (event 1 7 9 3 3920001 700 1 4) ⟶ scored 0x3fd3_3333_3333_3333 0x0000_0000_0000_0000 25
+    -- C175: exactly 85 percent: row 3 (severity 0.15, energy 0)
+    ∷ score house (event 1 7 9 3 5780000 850 1 4) ⟶ scored 0x3fc3_3333_3333_3333 0x0000_0000_0000_0000 25
+    -- C176: one unit above: row 4 (severity 0.15, energy 0)
+    ∷ score house (event 1 7 9 3 5780001 850 1 4) ⟶ scored 0x3fc3_3333_3333_3333 0x0000_0000_0000_0000 33
+    -- C177: one unit below the sag threshold: row 4 (severity 0.101, energy 0)
+    ∷ score house (event 1 7 9 3 6479999 899 1 4) ⟶ scored 0x3fb9_db22_d0e5_6042 0x0000_0000_0000_0000 33
+    -- C178: 10 percent is an S of 100200.1, and the whole number below it in row 0 (severity 0.901, energy 0)
+    ∷ score ten (event 1 7 9 3 100200 99 1 4) ⟶ scored 0x3fec_d4fd_f3b6_45a2 0x0000_0000_0000_0000 1
+    -- C179: the one above it in row 1 (severity 0.9, energy 0)
+    ∷ score ten (event 1 7 9 3 100201 100 1 4) ⟶ scored 0x3fec_cccc_cccc_cccd 0x0000_0000_0000_0000 9
+    -- C180: 70 percent is an S of 4909804.9, and the whole number below it in row 2 (severity 0.301, energy 0)
+    ∷ score ten (event 1 7 9 3 4909804 699 1 4) ⟶ scored 0x3fd3_4395_8106_24dd 0x0000_0000_0000_0000 17
+    -- C181: the one above it in row 3 (severity 0.3, energy 0)
+    ∷ score ten (event 1 7 9 3 4909805 700 1 4) ⟶ scored 0x3fd3_3333_3333_3333 0x0000_0000_0000_0000 25
+    ∷ []
+
+-- ---- energies: whole milliseconds, rounded down
+
+energies : List Case
+energies =
+    -- C182: no shortfall (severity 1, energy 0)
+    score house (event 1 7 10 3 2000000 500 0 4) ⟶ scored 0x3ff0_0000_0000_0000 0x0000_0000_0000_0000 17
+    -- C183: one unit short of a millisecond: 0 (severity 1, energy 0)
+    ∷ score house (event 1 7 10 3 2000000 500 799999 4) ⟶ scored 0x3ff0_0000_0000_0000 0x0000_0000_0000_0000 17
+    -- C184: a millisecond (severity 1, energy 0.001)
+    ∷ score house (event 1 7 10 3 2000000 500 800000 4) ⟶ scored 0x3ff0_0000_0000_0000 0x3f50_624d_d2f1_a9fc 17
+    -- C185: one unit short of two: 1 (severity 1, energy 0.001)
+    ∷ score house (event 1 7 10 3 2000000 500 1599999 4) ⟶ scored 0x3ff0_0000_0000_0000 0x3f50_624d_d2f1_a9fc 17
+    -- C186: the most that three half-cycles can lack (severity 1, energy 0.09)
+    ∷ score house (event 1 7 10 3 2000000 500 72000000 4) ⟶ scored 0x3ff0_0000_0000_0000 0x3fb7_0a3d_70a3_d70a 17
+    -- C187: f 60: one unit short of a millisecond (severity 1, energy 0)
+    ∷ score wide (event 1 7 10 3 2000000 500 959999 4) ⟶ scored 0x3ff0_0000_0000_0000 0x0000_0000_0000_0000 17
+    -- C188: f 60: a millisecond (severity 1, energy 0.001)
+    ∷ score wide (event 1 7 10 3 2000000 500 960000 4) ⟶ scored 0x3ff0_0000_0000_0000 0x3f50_624d_d2f1_a9fc 17
+    -- C189: N 10, R 1001, f 60: 7 milliseconds are 8416808.4, the whole number below is 6 (severity 1.108, energy 0.006)
+    ∷ score ten (event 1 7 10 3 2000000 446 8416808 4) ⟶ scored 0x3ff1_ba5e_353f_7cee 0x3f78_9374_bc6a_7efa 17
+    -- C190: the one above is 7 (severity 1.108, energy 0.007)
+    ∷ score ten (event 1 7 10 3 2000000 446 8416809 4) ⟶ scored 0x3ff1_ba5e_353f_7cee 0x3f7c_ac08_3126_e979 17
+    -- C191: the longest and deepest sag of all: 3000 s (severity 5, energy 3000)
+    ∷ score house (event 1 0 100000 3 0 0 2400000000000 0) ⟶ scored 0x4014_0000_0000_0000 0x40a7_7000_0000_0000 7
+    ∷ []
+
+-- ---- what is not an event, each condition broken by one; the order of reasons
+
+not-events : List Case
+not-events =
+    -- C192: kind 0
+    score house (event 0 7 9 3 20000 50 0 0) ⟶ unscored 5 40
+    -- C193: kind 1, and all else as it must be (severity 0.5, energy 0.015)
+    ∷ score house (event 1 30 32 3 2000000 500 12000000 4) ⟶ scored 0x3fe0_0000_0000_0000 0x3f8e_b851_eb85_1eb8 17
+    -- C194: kind 2: not a sag
+    ∷ score house (event 2 7 9 3 20000 50 0 0) ⟶ unscored 4 40
+    -- C195: kind 3: not a sag
+    ∷ score house (event 3 7 9 3 9680001 1100 0 0) ⟶ unscored 4 40
+    -- C196: kind 4
+    ∷ score house (event 4 7 9 3 9680001 1100 0 0) ⟶ unscored 5 40
+    -- C197: start one below end (severity 0.5, energy 0.015)
+    ∷ score house (event 1 31 32 3 2000000 500 12000000 4) ⟶ scored 0x3fe0_0000_0000_0000 0x3f8e_b851_eb85_1eb8 16
+    -- C198: start at end
+    ∷ score house (event 1 32 32 3 2000000 500 0 4) ⟶ unscored 5 40
+    -- C199: start above end
+    ∷ score house (event 1 33 32 3 2000000 500 0 4) ⟶ unscored 5 40
+    -- C200: start at end, of an interruption
+    ∷ score house (event 2 9 9 3 20000 50 0 0) ⟶ unscored 5 40
+    -- C201: end 100,000 (severity 0.5, energy 0.015)
+    ∷ score house (event 1 99998 100000 3 2000000 500 12000000 4)
+    ⟶ scored 0x3fe0_0000_0000_0000 0x3f8e_b851_eb85_1eb8 17
+    -- C202: end 100,001
+    ∷ score house (event 1 99999 100001 3 2000000 500 12000000 4) ⟶ unscored 5 40
+    -- C203: seen 4
+    ∷ score house (event 1 30 32 4 2000000 500 12000000 4) ⟶ unscored 5 40
+    -- C204: retained one more than that of the extreme
+    ∷ score house (event 1 30 32 3 2000000 501 12000000 4) ⟶ unscored 5 40
+    -- C205: one less
+    ∷ score house (event 1 30 32 3 2000000 499 12000000 4) ⟶ unscored 5 40
+    -- C206: one unit of S below 50 percent: retained 499 (severity 0.501, energy 0.015)
+    ∷ score house (event 1 30 32 3 1999999 499 12000000 4) ⟶ scored 0x3fe0_0831_26e9_78d5 0x3f8e_b851_eb85_1eb8 17
+    -- C207: and not 500
+    ∷ score house (event 1 30 32 3 1999999 500 12000000 4) ⟶ unscored 5 40
+    -- C208: the smallest S with retained 1 (severity 0.999, energy 0.015)
+    ∷ score house (event 1 30 32 3 8 1 12000000 4) ⟶ scored 0x3fef_f7ce_d916_872b 0x3f8e_b851_eb85_1eb8 1
+    -- C209: one unit less: retained 0 (severity 1, energy 0.015)
+    ∷ score house (event 1 30 32 3 7 0 12000000 4) ⟶ scored 0x3ff0_0000_0000_0000 0x3f8e_b851_eb85_1eb8 1
+    -- C210: a sag's extreme one unit below the threshold (severity 0.101, energy 0.015)
+    ∷ score house (event 1 30 32 3 6479999 899 12000000 4) ⟶ scored 0x3fb9_db22_d0e5_6042 0x3f8e_b851_eb85_1eb8 33
+    -- C211: on it
+    ∷ score house (event 1 30 32 3 6480000 900 12000000 4) ⟶ unscored 5 40
+    -- C212: a sag's shortfall 3 x N x R x R x h (severity 0.5, energy 0.06)
+    ∷ score house (event 1 30 32 3 2000000 500 48000000 4) ⟶ scored 0x3fe0_0000_0000_0000 0x3fae_b851_eb85_1eb8 17
+    -- C213: one more
+    ∷ score house (event 1 30 32 3 2000000 500 48000001 4) ⟶ unscored 5 40
+    -- C214: type 6 (severity 0.5, energy 0.015)
+    ∷ score house (event 1 30 32 3 2000000 500 12000000 6) ⟶ scored 0x3fe0_0000_0000_0000 0x3f8e_b851_eb85_1eb8 17
+    -- C215: type 7
+    ∷ score house (event 1 30 32 3 2000000 500 12000000 7) ⟶ unscored 5 40
+    -- C216: a swell with a shortfall
+    ∷ score house (event 3 7 9 3 9680001 1100 1 0) ⟶ unscored 5 40
+    -- C217: a swell with a type
+    ∷ score house (event 3 7 9 3 9680001 1100 0 1) ⟶ unscored 5 40
+    -- C218: an interruption with a shortfall
+    ∷ score house (event 2 7 9 3 20000 50 1 0) ⟶ unscored 5 40
+    -- C219: an interruption with a type
+    ∷ score house (event 2 7 9 3 20000 50 0 1) ⟶ unscored 5 40
+    -- C220: extreme N x 10,000,000,000
+    ∷ score high (event 3 7 9 3 80000000000 2000 0 0) ⟶ unscored 4 40
+    -- C221: one more
+    ∷ score high (event 3 7 9 3 80000000001 2000 0 0) ⟶ unscored 5 40
+    -- C222: only the start unseen
+    ∷ score house (event 1 30 32 2 2000000 500 12000000 4) ⟶ unscored 1 40
+    -- C223: only the end unseen
+    ∷ score house (event 1 30 32 1 2000000 500 12000000 4) ⟶ unscored 2 40
+    -- C224: both unseen
+    ∷ score house (event 1 30 32 0 2000000 500 12000000 4) ⟶ unscored 3 40
+    -- C225: a swell with both unseen: not a sag
+    ∷ score house (event 3 7 9 0 9680001 1100 0 0) ⟶ unscored 4 40
+    -- C226: an interruption with its end unseen: not a sag
+    ∷ score house (event 2 7 9 1 20000 50 0 0) ⟶ unscored 4 40
+    -- C227: a swell with a type and both unseen: not an event
+    ∷ score house (event 3 7 9 0 9680001 1100 0 1) ⟶ unscored 5 40
+    -- C228: a sag of type 7, its start unseen: not an event
+    ∷ score house (event 1 30 32 2 2000000 500 12000000 7) ⟶ unscored 5 40
+    -- C229: N 9 and kind 0: settings bad
+    ∷ score (settings 9 1000 50 90 10 110 2) (event 0 30 32 3 2000000 500 12000000 4) ⟶ unscored 6 40
+    -- C230: N 9 and a swell: settings bad
+    ∷ score (settings 9 1000 50 90 10 110 2) (event 3 7 9 0 9680001 1100 0 0) ⟶ unscored 6 40
+    -- C231: N 9 and a sag with both unseen: settings bad
+    ∷ score (settings 9 1000 50 90 10 110 2) (event 1 30 32 0 2000000 500 12000000 4) ⟶ unscored 6 40
+    ∷ []
+
+-- ---- fresh tables; where a setting is bad, zeros
+
+making : List Case
+making =
+    -- C232: each setting at the lower end of its range: a fresh table
+    fresh (settings 8 1000 50 50 1 105 0) ⟶ taken (site (blank (settings 8 1000 50 50 1 105 0)))
+    -- C233: each at the upper end
+    ∷ fresh (settings 512 50000 60 95 20 150 5) ⟶ taken (site (blank (settings 512 50000 60 95 20 150 5)))
+    -- C234: within
+    ∷ fresh (settings 10 1000 50 51 10 110 2) ⟶ taken (site (blank (settings 10 1000 50 51 10 110 2)))
+    -- C235: N 7
+    ∷ fresh (settings 7 1000 50 50 1 105 0) ⟶ refused 1 1 (site (blank (settings 0 0 0 0 0 0 0)))
+    -- C236: N 6, even
+    ∷ fresh (settings 6 1000 50 50 1 105 0) ⟶ refused 1 1 (site (blank (settings 0 0 0 0 0 0 0)))
+    -- C237: N 9, odd
+    ∷ fresh (settings 9 1000 50 90 10 110 2) ⟶ refused 1 1 (site (blank (settings 0 0 0 0 0 0 0)))
+    -- C238: N 511, odd
+    ∷ fresh (settings 511 1000 50 90 10 110 2) ⟶ refused 1 1 (site (blank (settings 0 0 0 0 0 0 0)))
+    -- C239: N 513
+    ∷ fresh (settings 513 50000 60 95 20 150 5) ⟶ refused 1 1 (site (blank (settings 0 0 0 0 0 0 0)))
+    -- C240: N 514, even
+    ∷ fresh (settings 514 50000 60 95 20 150 5) ⟶ refused 1 1 (site (blank (settings 0 0 0 0 0 0 0)))
+    -- C241: N 0
+    ∷ fresh (settings 0 1000 50 90 10 110 2) ⟶ refused 1 1 (site (blank (settings 0 0 0 0 0 0 0)))
+    -- C242: R 999
+    ∷ fresh (settings 8 999 50 50 1 105 0) ⟶ refused 1 2 (site (blank (settings 0 0 0 0 0 0 0)))
+    -- C243: R 50,001
+    ∷ fresh (settings 512 50001 60 95 20 150 5) ⟶ refused 1 2 (site (blank (settings 0 0 0 0 0 0 0)))
+    -- C244: f 49
+    ∷ fresh (settings 8 1000 49 90 10 110 2) ⟶ refused 1 3 (site (blank (settings 0 0 0 0 0 0 0)))
+    -- C245: f 51
+    ∷ fresh (settings 8 1000 51 90 10 110 2) ⟶ refused 1 3 (site (blank (settings 0 0 0 0 0 0 0)))
+    -- C246: f 55
+    ∷ fresh (settings 8 1000 55 90 10 110 2) ⟶ refused 1 3 (site (blank (settings 0 0 0 0 0 0 0)))
+    -- C247: f 59
+    ∷ fresh (settings 8 1000 59 90 10 110 2) ⟶ refused 1 3 (site (blank (settings 0 0 0 0 0 0 0)))
+    -- C248: f 61
+    ∷ fresh (settings 8 1000 61 90 10 110 2) ⟶ refused 1 3 (site (blank (settings 0 0 0 0 0 0 0)))
+    -- C249: sag threshold 49
+    ∷ fresh (settings 8 1000 50 49 1 105 0) ⟶ refused 1 4 (site (blank (settings 0 0 0 0 0 0 0)))
+    -- C250: sag threshold 96
+    ∷ fresh (settings 512 50000 60 96 20 150 5) ⟶ refused 1 4 (site (blank (settings 0 0 0 0 0 0 0)))
+    -- C251: interruption threshold 0
+    ∷ fresh (settings 8 1000 50 50 0 105 0) ⟶ refused 1 5 (site (blank (settings 0 0 0 0 0 0 0)))
+    -- C252: interruption threshold 21
+    ∷ fresh (settings 512 50000 60 95 21 150 5) ⟶ refused 1 5 (site (blank (settings 0 0 0 0 0 0 0)))
+    -- C253: swell threshold 104
+    ∷ fresh (settings 8 1000 50 50 1 104 0) ⟶ refused 1 6 (site (blank (settings 0 0 0 0 0 0 0)))
+    -- C254: swell threshold 151
+    ∷ fresh (settings 512 50000 60 95 20 151 5) ⟶ refused 1 6 (site (blank (settings 0 0 0 0 0 0 0)))
+    -- C255: hysteresis 6
+    ∷ fresh (settings 512 50000 60 95 20 150 6) ⟶ refused 1 7 (site (blank (settings 0 0 0 0 0 0 0)))
+    -- C256: N and R bad: the first is told
+    ∷ fresh (settings 513 999 50 90 10 110 2) ⟶ refused 1 1 (site (blank (settings 0 0 0 0 0 0 0)))
+    -- C257: R and f bad
+    ∷ fresh (settings 8 50001 55 90 10 110 2) ⟶ refused 1 2 (site (blank (settings 0 0 0 0 0 0 0)))
+    -- C258: R and hysteresis bad
+    ∷ fresh (settings 8 999 50 90 10 110 6) ⟶ refused 1 2 (site (blank (settings 0 0 0 0 0 0 0)))
+    -- C259: f and sag threshold bad
+    ∷ fresh (settings 8 1000 55 96 10 110 2) ⟶ refused 1 3 (site (blank (settings 0 0 0 0 0 0 0)))
+    -- C260: sag and interruption threshold bad
+    ∷ fresh (settings 8 1000 50 49 21 110 2) ⟶ refused 1 4 (site (blank (settings 0 0 0 0 0 0 0)))
+    -- C261: interruption and swell threshold bad
+    ∷ fresh (settings 8 1000 50 90 0 104 2) ⟶ refused 1 5 (site (blank (settings 0 0 0 0 0 0 0)))
+    -- C262: swell threshold and hysteresis bad
+    ∷ fresh (settings 8 1000 50 90 10 151 6) ⟶ refused 1 6 (site (blank (settings 0 0 0 0 0 0 0)))
+    -- C263: all bad
+    ∷ fresh (settings 0 0 0 0 0 0 9) ⟶ refused 1 1 (site (blank (settings 0 0 0 0 0 0 0)))
+    ∷ []
+
+-- ---- sound and unsound tables, each condition broken by one
+
+sound : List Case
+sound =
+    -- C264: each number as large as it may be beside the total: sound
+    add (table house 2 1 1 0 (put 17 1 none) 1 2 2 2 2 48000000) (even 2 1000)
+    ⟶ taken (site (table house 3 2 1 0 (put 17 1 none) 1 2 2 2 2 48000000))
+    -- C265: all interruptions stray: sound
+    ∷ add (table house 2 1 1 0 (put 17 1 none) 1 2 1 2 1 48000000) (even 2 1000)
+    ⟶ taken (site (table house 3 2 1 0 (put 17 1 none) 1 2 1 2 1 48000000))
+    -- C266: its settings bad: f 51
+    ∷ add (table (settings 8 1000 51 90 10 110 2) 2 1 1 0 (put 17 1 none) 1 2 2 2 2 48000000) (even 2 1000)
+    ⟶ refused 9 0 (site (table (settings 8 1000 51 90 10 110 2) 2 1 1 0 (put 17 1 none) 1 2 2 2 2 48000000))
+    -- C267: a healthy half-cycle too few
+    ∷ add (table house 2 0 1 0 (put 17 1 none) 1 2 2 2 2 48000000) (even 2 1000)
+    ⟶ refused 9 0 (site (table house 2 0 1 0 (put 17 1 none) 1 2 2 2 2 48000000))
+    -- C268: a disturbed half-cycle too many
+    ∷ add (table house 2 1 2 0 (put 17 1 none) 1 2 2 2 2 48000000) (even 2 1000)
+    ⟶ refused 9 0 (site (table house 2 1 2 0 (put 17 1 none) 1 2 2 2 2 48000000))
+    -- C269: an unknown half-cycle too many
+    ∷ add (table house 2 1 1 1 (put 17 1 none) 1 2 2 2 2 48000000) (even 2 1000)
+    ⟶ refused 9 0 (site (table house 2 1 1 1 (put 17 1 none) 1 2 2 2 2 48000000))
+    -- C270: a total one above its parts
+    ∷ add (table house 3 1 1 0 (put 17 1 none) 1 2 2 2 2 48000000) (even 2 1000)
+    ⟶ refused 9 0 (site (table house 3 1 1 0 (put 17 1 none) 1 2 2 2 2 48000000))
+    -- C271: a sag too many in cell 0
+    ∷ add (table house 2 1 1 0 (put 17 1 (put 0 1 none)) 1 2 2 2 2 48000000) (even 2 1000)
+    ⟶ refused 9 0 (site (table house 2 1 1 0 (put 17 1 (put 0 1 none)) 1 2 2 2 2 48000000))
+    -- C272: a sag too many in cell 39
+    ∷ add (table house 2 1 1 0 (put 39 1 (put 17 1 none)) 1 2 2 2 2 48000000) (even 2 1000)
+    ⟶ refused 9 0 (site (table house 2 1 1 0 (put 39 1 (put 17 1 none)) 1 2 2 2 2 48000000))
+    -- C273: an unplaced sag too few
+    ∷ add (table house 2 1 1 0 (put 17 1 none) 0 2 2 2 2 48000000) (even 2 1000)
+    ⟶ refused 9 0 (site (table house 2 1 1 0 (put 17 1 none) 0 2 2 2 2 48000000))
+    -- C274: sags one below cells and unplaced
+    ∷ add (table house 2 1 1 0 (put 17 1 none) 1 1 2 2 2 48000000) (even 2 1000)
+    ⟶ refused 9 0 (site (table house 2 1 1 0 (put 17 1 none) 1 1 2 2 2 48000000))
+    -- C275: sags one above the total
+    ∷ add (table house 2 1 1 0 (put 17 1 none) 2 3 2 2 2 48000000) (even 2 1000)
+    ⟶ refused 9 0 (site (table house 2 1 1 0 (put 17 1 none) 2 3 2 2 2 48000000))
+    -- C276: interruptions one above the total
+    ∷ add (table house 2 1 1 0 (put 17 1 none) 1 2 3 2 2 48000000) (even 2 1000)
+    ⟶ refused 9 0 (site (table house 2 1 1 0 (put 17 1 none) 1 2 3 2 2 48000000))
+    -- C277: swells one above the total
+    ∷ add (table house 2 1 1 0 (put 17 1 none) 1 2 2 3 2 48000000) (even 2 1000)
+    ⟶ refused 9 0 (site (table house 2 1 1 0 (put 17 1 none) 1 2 2 3 2 48000000))
+    -- C278: stray interruptions one above the interruptions
+    ∷ add (table house 2 1 1 0 (put 17 1 none) 1 2 1 2 2 48000000) (even 2 1000)
+    ⟶ refused 9 0 (site (table house 2 1 1 0 (put 17 1 none) 1 2 1 2 2 48000000))
+    -- C279: shortfall one above 3 x N x R x R x total
+    ∷ add (table house 2 1 1 0 (put 17 1 none) 1 2 2 2 2 48000001) (even 2 1000)
+    ⟶ refused 9 0 (site (table house 2 1 1 0 (put 17 1 none) 1 2 2 2 2 48000001))
+    -- C280: N 10, R 1001: shortfall on its bound
+    ∷ add (table ten 2 1 1 0 (put 17 1 none) 1 2 2 2 2 60120060) (alike 10 1001 1001 1001)
+    ⟶ taken (site (table ten 3 2 1 0 (put 17 1 none) 1 2 2 2 2 60120060))
+    -- C281: one above
+    ∷ add (table ten 2 1 1 0 (put 17 1 none) 1 2 2 2 2 60120061) (alike 10 1001 1001 1001)
+    ⟶ refused 9 0 (site (table ten 2 1 1 0 (put 17 1 none) 1 2 2 2 2 60120061))
+    -- C282: room for one half-cycle more: filled to 4,000,000
+    ∷ add (healthyOnly 3999999) (even 2 1000) ⟶ taken (site (healthyOnly 4000000))
+    -- C283: a total of 4,000,000 is sound, and full
+    ∷ add (healthyOnly 4000000) (even 2 1000) ⟶ refused 8 0 (site (healthyOnly 4000000))
+    -- C284: a total of 4,000,001 is unsound
+    ∷ add (healthyOnly 4000001) (even 2 1000) ⟶ refused 9 0 (site (healthyOnly 4000001))
+    -- C285: a table of zeros is unsound
+    ∷ add (blank (settings 0 0 0 0 0 0 0)) (even 2 1000) ⟶ refused 9 0 (site (blank (settings 0 0 0 0 0 0 0)))
+    ∷ []
+
+-- ---- what a recording adds to a table, and when it is full
+
+growing : List Case
+growing =
+    -- C286: each number of the table its own, and something of everything added
+    add various (set (even 1 500 ++ even 2 1000 ++ even 2 0 ++ even 2 1000 ++ uneven 1 1000 1300 1000 ++ even 3 1000) 110 lost)
+    ⟶ taken (site (table house 10022 5005 3007 2010 (put 1 103 (rising 40 101)) 58 4879 612 714 19 58234567))
+    -- C287: and a calm recording: only total and healthy grow
+    ∷ add various (even 4 1000)
+    ⟶ taken (site (table house 10015 5006 3001 2008 (rising 40 101) 57 4877 611 713 19 1234567))
+    -- C288: two sags in two cells, of different rows and columns
+    ∷ add (blank house) (even 2 1000 ++ uneven 2 1000 899 1000 ++ even 1 1000 ++ uneven 3 1000 1000 100 ++ even 2 1000)
+    ⟶ taken (site (table house 9 4 5 0 (put 32 1 (put 1 1 none)) 0 2 0 0 0 25294392))
+    -- C289: f 60, hysteresis 5: a sag with its cell, and one whose end is unseen
+    ∷ add (blank wide) (even 2 1000 ++ uneven 1 300 450 600 ++ even 2 1000 ++ uneven 1 300 450 600 ++ even 1 1000)
+    ⟶ taken (site (table wide 6 2 4 0 (put 25 1 none) 1 2 0 0 0 27320000))
+    -- C290: N 10, R 1001
+    ∷ add (blank ten) (alike 10 1001 1001 1001 ++ alike 5 300 450 600 ++ alike 10 1001 1001 1001 ++ alike 5 300 450 600
+    ++ alike 5 1001 1001 1001)
+    ⟶ taken (site (table ten 6 2 4 0 (put 25 1 none) 1 2 0 0 0 47070060))
+    -- C291: sines
+    ∷ add (blank house) (sines 1000 1000 1000 ++ sines 500 800 1100 ++ sines 1000 1000 1000)
+    ⟶ taken (site (table house 5 2 3 0 (put 17 1 none) 0 1 0 0 0 14887106))
+    -- C292: ten half-cycles fill the table exactly
+    ∷ add (healthyOnly 3999990) (set (even 1 500 ++ even 2 1000 ++ even 2 0 ++ even 2 1000 ++ uneven 1 1000 1300 1000
+    ++ even 3 1000) 110 lost)
+    ⟶ taken (site (table house 4000000 3999992 6 2 (put 1 1 none) 1 2 1 1 0 57000000))
+    -- C293: there is room for nine, not for ten
+    ∷ add (healthyOnly 3999991) (set (even 1 500 ++ even 2 1000 ++ even 2 0 ++ even 2 1000 ++ uneven 1 1000 1300 1000
+    ++ even 3 1000) 110 lost)
+    ⟶ refused 8 9 (site (healthyOnly 3999991))
+    ∷ []
+
+-- ---- refusals 2, 3 and 4
+
+lengths : List Case
+lengths =
+    -- C294: no samples: 3
+    list house 9 [] ⟶ refused 3 0 (run (nines 9))
+    -- C295: one sample: 2 before 3
+    ∷ list house 9 (pos 1000 ∷ []) ⟶ refused 2 0 (run (nines 9))
+    -- C296: two samples: 2 before 3
+    ∷ list house 9 (pos 1000 ∷ pos 1000 ∷ []) ⟶ refused 2 0 (run (nines 9))
+    -- C297: 8 samples per channel and one more: 2
+    ∷ list house 9 (even 2 1000 ++ pos 1000 ∷ []) ⟶ refused 2 0 (run (nines 9))
+    -- C298: and two more: 2
+    ∷ list house 9 (even 2 1000 ++ pos 1000 ∷ pos 1000 ∷ []) ⟶ refused 2 0 (run (nines 9))
+    -- C299: 4 samples per channel, a multiple of N/2: 3
+    ∷ list house 9 (even 1 1000) ⟶ refused 3 0 (run (nines 9))
+    -- C300: 7: 3 before 4
+    ∷ list house 9 (alike 7 1000 1000 1000) ⟶ refused 3 0 (run (nines 9))
+    -- C301: 8: one half-cycle
+    ∷ list house 9 (even 2 1000) ⟶ events 0 (run (nines 9))
+    -- C302: 9: 4
+    ∷ list house 9 (alike 9 1000 1000 1000) ⟶ refused 4 0 (run (nines 9))
+    -- C303: 11: 4
+    ∷ list house 9 (alike 11 1000 1000 1000) ⟶ refused 4 0 (run (nines 9))
+    -- C304: 12: two half-cycles
+    ∷ list house 9 (even 3 1000) ⟶ events 0 (run (nines 9))
+    -- C305: added, no samples: 3
+    ∷ add various [] ⟶ refused 3 0 (site various)
+    -- C306: added, one sample: 2 before 3
+    ∷ add various (pos 1000 ∷ []) ⟶ refused 2 0 (site various)
+    -- C307: added, two samples: 2 before 3
+    ∷ add various (pos 1000 ∷ pos 1000 ∷ []) ⟶ refused 2 0 (site various)
+    -- C308: added, 8 samples per channel and one more: 2
+    ∷ add various (even 2 1000 ++ pos 1000 ∷ []) ⟶ refused 2 0 (site various)
+    -- C309: added, and two more: 2
+    ∷ add various (even 2 1000 ++ pos 1000 ∷ pos 1000 ∷ []) ⟶ refused 2 0 (site various)
+    -- C310: added, 4 samples per channel, a multiple of N/2: 3
+    ∷ add various (even 1 1000) ⟶ refused 3 0 (site various)
+    -- C311: added, 7: 3 before 4
+    ∷ add various (alike 7 1000 1000 1000) ⟶ refused 3 0 (site various)
+    -- C312: added, 8: one half-cycle
+    ∷ add various (even 2 1000)
+    ⟶ taken (site (table house 10013 5004 3001 2008 (rising 40 101) 57 4877 611 713 19 1234567))
+    -- C313: added, 9: 4
+    ∷ add various (alike 9 1000 1000 1000) ⟶ refused 4 0 (site various)
+    -- C314: added, 11: 4
+    ∷ add various (alike 11 1000 1000 1000) ⟶ refused 4 0 (site various)
+    -- C315: added, 12: two half-cycles
+    ∷ add various (even 3 1000)
+    ⟶ taken (site (table house 10014 5005 3001 2008 (rising 40 101) 57 4877 611 713 19 1234567))
+    -- C316: N 10, 9 samples per channel: 3
+    ∷ list ten 9 (alike 9 300 1001 1001) ⟶ refused 3 0 (run (nines 9))
+    -- C317: 10: one half-cycle
+    ∷ list ten 9 (alike 10 300 1001 1001) ⟶ events 1 (run (words 1 0 1 0 900000 299 9120010 4 ++ nines 1))
+    -- C318: 14: 4
+    ∷ list ten 9 (alike 14 300 1001 1001) ⟶ refused 4 0 (run (nines 9))
+    -- C319: 15: two half-cycles
+    ∷ list ten 9 (alike 15 300 1001 1001) ⟶ events 1 (run (words 1 0 2 0 900000 299 18240020 4 ++ nines 1))
+    ∷ []
+
+-- ---- refusal 6, and samples on the ends of their range
+
+samples : List Case
+samples =
+    -- C320: all samples 100,000
+    list high 9 (even 2 100000) ⟶ events 1 (run (words 3 0 1 0 80000000000 2000 0 0 ++ nines 1))
+    -- C321: all samples -100,000
+    ∷ list high 9 (mirror (even 2 100000)) ⟶ events 1 (run (words 3 0 1 0 80000000000 2000 0 0 ++ nines 1))
+    -- C322: 100,001: 6, at its index
+    ∷ list high 9 (set (even 2 50000) 0 (pos 100001)) ⟶ refused 6 0 (run (nines 9))
+    -- C323: -100,001
+    ∷ list high 9 (set (even 2 50000) 4 (minus 100001)) ⟶ refused 6 4 (run (nines 9))
+    -- C324: 2,147,483,647
+    ∷ list high 9 (set (even 2 50000) 8 (pos 2147483647)) ⟶ refused 6 8 (run (nines 9))
+    -- C325: -2,147,483,647
+    ∷ list high 9 (set (even 2 50000) 22 (minus 2147483647)) ⟶ refused 6 22 (run (nines 9))
+    -- C326: -2,147,483,648 is missing, and no refusal
+    ∷ list high 9 (set (even 2 50000) 23 lost) ⟶ events 0 (run (nines 9))
+    -- C327: two of them: the first index
+    ∷ list high 9 (set (set (even 2 50000) 20 (pos 100001)) 7 (minus 100001)) ⟶ refused 6 7 (run (nines 9))
+    -- C328: a missing sample before it is none
+    ∷ list high 9 (set (set (even 2 50000) 7 lost) 20 (pos 100001)) ⟶ refused 6 20 (run (nines 9))
+    -- C329: added: 6, at the last index
+    ∷ add various (set (even 2 1000) 23 (pos 100001)) ⟶ refused 6 23 (site various)
+    -- C330: added, two of them
+    ∷ add various (set (set (even 2 1000) 13 (minus 100001)) 14 (pos 100001)) ⟶ refused 6 13 (site various)
+    -- C331: added, a single sample of 100,000
+    ∷ add various (set (even 2 1000) 0 (pos 100000))
+    ⟶ taken (site (table house 10013 5003 3002 2008 (rising 40 101) 57 4877 611 714 19 1234567))
+    ∷ []
+
+-- ---- refusal 7, and how far the lent run is written
+
+rooms : List Case
+rooms =
+    -- C332: room 7 for K2: 7, at the number of events
+    list house 7 (even 2 1000 ++ even 2 500 ++ even 2 1000) ⟶ refused 7 1 (run (nines 7))
+    -- C333: room 8: accepted, and all of it written
+    ∷ list house 8 (even 2 1000 ++ even 2 500 ++ even 2 1000) ⟶ events 1 (run (words 1 1 4 3 2000000 500 36000000 0))
+    -- C334: no room at all
+    ∷ list house 0 (even 2 1000 ++ even 2 500 ++ even 2 1000) ⟶ refused 7 1 (run (nines 0))
+    -- C335: no room and no event: accepted
+    ∷ list house 0 (even 6 1000) ⟶ events 0 (run (nines 0))
+    -- C336: room for one event of two
+    ∷ list house 8 (even 2 1000 ++ even 2 0 ++ even 2 1000) ⟶ refused 7 2 (run (nines 8))
+    -- C337: room 15 for two events
+    ∷ list house 15 (even 2 1000 ++ even 2 0 ++ even 2 1000) ⟶ refused 7 2 (run (nines 15))
+    -- C338: room 16
+    ∷ list house 16 (even 2 1000 ++ even 2 0 ++ even 2 1000)
+    ⟶ events 2 (run (words 1 1 4 3 0 0 48000000 0 ++ words 2 2 3 3 0 0 0 0))
+    -- C339: room 20: the last four numbers stay
+    ∷ list house 20 (even 2 1000 ++ even 2 0 ++ even 2 1000)
+    ⟶ events 2 (run (words 1 1 4 3 0 0 48000000 0 ++ words 2 2 3 3 0 0 0 0 ++ nines 4))
+    ∷ []
+
+-- ---- where several refusals apply, the first of the table is told
+
+order : List Case
+order =
+    -- C340: f 55, hysteresis 6, length 5, a sample out of range: 1, at f
+    list (settings 8 1000 55 90 10 110 6) 7 (pos 100001 ∷ pos 1000 ∷ pos 1000 ∷ pos 1000 ∷ pos 1000 ∷ [])
+    ⟶ refused 1 3 (run (nines 7))
+    -- C341: length 5, a sample out of range: 2
+    ∷ list house 7 (pos 100001 ∷ pos 1000 ∷ pos 1000 ∷ pos 1000 ∷ pos 1000 ∷ []) ⟶ refused 2 0 (run (nines 7))
+    -- C342: 7 samples per channel, one out of range: 3
+    ∷ list house 7 (set (alike 7 1000 1000 1000) 0 (pos 100001)) ⟶ refused 3 0 (run (nines 7))
+    -- C343: 9 samples per channel, one out of range: 4
+    ∷ list house 7 (set (alike 9 1000 1000 1000) 0 (pos 100001)) ⟶ refused 4 0 (run (nines 7))
+    -- C344: a sample out of range and too little room: 6
+    ∷ list house 7 (set (even 2 1000 ++ even 2 500 ++ even 2 1000) 71 (pos 100001)) ⟶ refused 6 71 (run (nines 7))
+    -- C345: f 55, hysteresis 6 and too little room: 1
+    ∷ list (settings 8 1000 55 90 10 110 6) 7 (even 2 1000 ++ even 2 500 ++ even 2 1000) ⟶ refused 1 3 (run (nines 7))
+    -- C346: hysteresis 6 alone: 1, at 7
+    ∷ list (settings 8 1000 50 90 10 110 6) 9 (even 2 1000 ++ even 2 500 ++ even 2 1000) ⟶ refused 1 7 (run (nines 9))
+    -- C347: an unsound table, full, length 5, a sample out of range: 9
+    ∷ add (table house 4000000 4000000 0 1 none 0 0 0 0 0 0) (pos 100001 ∷ pos 1000 ∷ pos 1000 ∷ pos 1000 ∷ pos 1000 ∷ [])
+    ⟶ refused 9 0 (site (table house 4000000 4000000 0 1 none 0 0 0 0 0 0))
+    -- C348: an unsound table: 9
+    ∷ add (table house 10012 5003 3001 2009 (rising 40 101) 57 4877 611 713 19 1234567) (even 2 1000 ++ even 2 500 ++ even 2 1000)
+    ⟶ refused 9 0 (site (table house 10012 5003 3001 2009 (rising 40 101) 57 4877 611 713 19 1234567))
+    -- C349: a full table, length 5, a sample out of range: 2
+    ∷ add (healthyOnly 4000000) (pos 100001 ∷ pos 1000 ∷ pos 1000 ∷ pos 1000 ∷ pos 1000 ∷ [])
+    ⟶ refused 2 0 (site (healthyOnly 4000000))
+    -- C350: a full table, 7 samples per channel, one out of range: 3
+    ∷ add (healthyOnly 4000000) (set (alike 7 1000 1000 1000) 0 (pos 100001)) ⟶ refused 3 0 (site (healthyOnly 4000000))
+    -- C351: a full table, 9 samples per channel, one out of range: 4
+    ∷ add (healthyOnly 4000000) (set (alike 9 1000 1000 1000) 0 (pos 100001)) ⟶ refused 4 0 (site (healthyOnly 4000000))
+    -- C352: a full table, a sample out of range: 6
+    ∷ add (healthyOnly 4000000) (set (even 2 1000 ++ even 2 500 ++ even 2 1000) 71 (pos 100001))
+    ⟶ refused 6 71 (site (healthyOnly 4000000))
+    -- C353: five half-cycles where there is room for four: 8, at 4
+    ∷ add (healthyOnly 3999996) (even 2 1000 ++ even 2 500 ++ even 2 1000) ⟶ refused 8 4 (site (healthyOnly 3999996))
+    ∷ []
+
+-- ---- all of them
+
+cases : List Case
+cases =
+    sags ++ interruptions ++ swells ++ overlaps ++ marks ++ gaps ++ types ++ durations ++ depths ++ energies ++ not-events
+    ++ making ++ sound ++ growing ++ lengths ++ samples ++ rooms ++ order
+
+case-answers : map asked-again cases ≡ cases
+unfolding answerTo asked-again cases sags interruptions swells overlaps marks gaps types durations depths energies not-events making sound growing lengths samples rooms order firstBad badSetting settingsGood halvesOf anyMissing squares sumsAt halfAt full carries inRun inEvent starts endOf seenOf extremeOf earliest climb retainedOf shortsOf sixSums typeOf eventFrom eventAt eventsOf inBounds sagGood isEvent reasonOf scoring rowOf columnOf cellOf isHealthy isDisturbed isUnknown isPlaced isUnplaced sagCell isContained isStray sagShortfalls grown isUnsound recordingCheck settingsCheck roomCheck listCheck listed written freshened soundCheck fullCheck addCheck added div ofInt ofBits
+case-answers = refl

@@ -1,0 +1,166 @@
+//! One event's score: curve, columns and rows on both sides of every border, energies rounded down, and what is not an
+//! event.
+use super::{score, with, Case, Section, HIGH, HOUSE, TEN, WIDE};
+use crate::score::retained;
+use crate::{Event, Settings};
+
+/// A sag of so many half-cycles with both ends seen.
+fn sag(s: &Settings, half_cycles: u64, extreme: u64, shortfall: u64) -> Event {
+    [1, 7, 7 + half_cycles, 3, extreme, retained(s, extreme), shortfall, 4]
+}
+
+pub fn durations() -> Section {
+    let fifty = [
+        (1, "below 2, column 0"),
+        (2, "column 1; the curve is 0"),
+        (3, "the curve is 500"),
+        (9, "5h below f, column 1"),
+        (10, "5h = f, column 2"),
+        (20, "5h = 2f, the curve is 500"),
+        (21, "the curve is 700"),
+        (49, "below f, column 2"),
+        (50, "h = f, column 3; the curve is 700"),
+        (51, "the curve is 800"),
+        (99, "below 2f, column 3"),
+        (100, "h = 2f, column 4"),
+        (299, "below 6f, column 4"),
+        (300, "h = 6f, column 5"),
+        (1_999, "below 40f, column 5"),
+        (2_000, "h = 40f, column 6"),
+        (5_999, "below 120f, column 6"),
+        (6_000, "h = 120f, column 7"),
+    ];
+    let sixty = [1, 2, 3, 11, 12, 24, 25, 59, 60, 61, 119, 120, 359, 360, 2_399, 2_400, 7_199, 7_200];
+    let case = |s: Settings, h: u64, words: &str| {
+        score(s, sag(&s, h, 2_000_000, 12_000_000), format!("f {}, h {h}: {words}", s.f))
+    };
+    let at_fifty = fifty.iter().map(|&(h, words)| case(HOUSE, h, words));
+    let at_sixty = sixty.iter().zip(&fifty).map(|(&h, &(_, words))| case(WIDE, h, words));
+    Section {
+        name: "durations",
+        about: "curve and columns on both sides of every border; the curve shows in the severity",
+        cases: at_fifty.chain(at_sixty).collect(),
+    }
+}
+
+pub fn depths() -> Section {
+    let rows = [
+        (0, "nothing left: row 0"),
+        (80_000, "exactly 10 percent: row 0"),
+        (80_001, "one unit above: row 1"),
+        (1_280_000, "exactly 40 percent: row 1"),
+        (1_280_001, "one unit above: row 2"),
+        (3_920_000, "exactly 70 percent: row 2"),
+        (3_920_001, "one unit above: row 3"),
+        (5_780_000, "exactly 85 percent: row 3"),
+        (5_780_001, "one unit above: row 4"),
+        (6_479_999, "one unit below the sag threshold: row 4"),
+    ];
+    let between = [
+        (100_200, "10 percent is an S of 100200.1, and the whole number below it in row 0"),
+        (100_201, "the one above it in row 1"),
+        (4_909_804, "70 percent is an S of 4909804.9, and the whole number below it in row 2"),
+        (4_909_805, "the one above it in row 3"),
+    ];
+    let case = |s: Settings, &(extreme, words): &(u64, &str)| score(s, sag(&s, 2, extreme, 1), words);
+    Section {
+        name: "depths",
+        about: "rows on both sides of every border",
+        cases: rows.iter().map(|row| case(HOUSE, row)).chain(between.iter().map(|row| case(TEN, row))).collect(),
+    }
+}
+
+pub fn energies() -> Section {
+    let case = |s: Settings, shortfall: u64, words: &str| score(s, sag(&s, 3, 2_000_000, shortfall), words);
+    Section {
+        name: "energies",
+        about: "energies: whole milliseconds, rounded down",
+        cases: vec![
+            case(HOUSE, 0, "no shortfall"),
+            case(HOUSE, 799_999, "one unit short of a millisecond: 0"),
+            case(HOUSE, 800_000, "a millisecond"),
+            case(HOUSE, 1_599_999, "one unit short of two: 1"),
+            case(HOUSE, 72_000_000, "the most that three half-cycles can lack"),
+            case(WIDE, 959_999, "f 60: one unit short of a millisecond"),
+            case(WIDE, 960_000, "f 60: a millisecond"),
+            case(TEN, 8_416_808, "N 10, R 1001, f 60: 7 milliseconds are 8416808.4, the whole number below is 6"),
+            case(TEN, 8_416_809, "the one above is 7"),
+            score(HOUSE, [1, 0, 100_000, 3, 0, 0, 2_400_000_000_000, 0], "the longest and deepest sag of all: 3000 s"),
+        ],
+    }
+}
+
+/// Where each of the eight numbers stands.
+mod of {
+    pub const KIND: usize = 0;
+    pub const START: usize = 1;
+    pub const END: usize = 2;
+    pub const SEEN: usize = 3;
+    pub const EXTREME: usize = 4;
+    pub const RETAINED: usize = 5;
+    pub const SHORTFALL: usize = 6;
+    pub const TYPE: usize = 7;
+}
+
+pub fn not_events() -> Section {
+    let good = [1, 30, 32, 3, 2_000_000, 500, 12_000_000, 4];
+    let interruption = [2, 7, 9, 3, 20_000, 50, 0, 0];
+    let swell = [3, 7, 9, 3, 9_680_001, 1100, 0, 0];
+    let bad = Settings { n: 9, ..HOUSE };
+    let case = |event: Event, changes: &[(usize, u64)], words: &str| score(HOUSE, with(event, changes), words);
+    let mut cases = bounds(good, interruption, swell);
+    cases.extend([
+        score(HIGH, with(swell, &[(of::EXTREME, 80_000_000_000), (of::RETAINED, 2000)]), "extreme N x 10,000,000,000"),
+        score(HIGH, with(swell, &[(of::EXTREME, 80_000_000_001), (of::RETAINED, 2000)]), "one more"),
+        case(good, &[(of::SEEN, 2)], "only the start unseen"),
+        case(good, &[(of::SEEN, 1)], "only the end unseen"),
+        case(good, &[(of::SEEN, 0)], "both unseen"),
+        case(swell, &[(of::SEEN, 0)], "a swell with both unseen: not a sag"),
+        case(interruption, &[(of::SEEN, 1)], "an interruption with its end unseen: not a sag"),
+        case(swell, &[(of::TYPE, 1), (of::SEEN, 0)], "a swell with a type and both unseen: not an event"),
+        case(good, &[(of::TYPE, 7), (of::SEEN, 2)], "a sag of type 7, its start unseen: not an event"),
+        score(bad, with(good, &[(of::KIND, 0)]), "N 9 and kind 0: settings bad"),
+        score(bad, with(swell, &[(of::SEEN, 0)]), "N 9 and a swell: settings bad"),
+        score(bad, with(good, &[(of::SEEN, 0)]), "N 9 and a sag with both unseen: settings bad"),
+    ]);
+    Section {
+        name: "not-events",
+        about: "what is not an event, each condition broken by one; the order of reasons",
+        cases,
+    }
+}
+
+/// Each number on the last good value and on the first bad one.
+fn bounds(good: Event, interruption: Event, swell: Event) -> Vec<Case> {
+    let case = |event: Event, changes: &[(usize, u64)], words: &str| score(HOUSE, with(event, changes), words);
+    vec![
+        case(interruption, &[(of::KIND, 0)], "kind 0"),
+        case(good, &[], "kind 1, and all else as it must be"),
+        case(interruption, &[], "kind 2: not a sag"),
+        case(swell, &[], "kind 3: not a sag"),
+        case(swell, &[(of::KIND, 4)], "kind 4"),
+        case(good, &[(of::START, 31)], "start one below end"),
+        case(good, &[(of::START, 32), (of::SHORTFALL, 0)], "start at end"),
+        case(good, &[(of::START, 33), (of::SHORTFALL, 0)], "start above end"),
+        case(interruption, &[(of::START, 9)], "start at end, of an interruption"),
+        case(good, &[(of::START, 99_998), (of::END, 100_000)], "end 100,000"),
+        case(good, &[(of::START, 99_999), (of::END, 100_001)], "end 100,001"),
+        case(good, &[(of::SEEN, 4)], "seen 4"),
+        case(good, &[(of::RETAINED, 501)], "retained one more than that of the extreme"),
+        case(good, &[(of::RETAINED, 499)], "one less"),
+        case(good, &[(of::EXTREME, 1_999_999), (of::RETAINED, 499)], "one unit of S below 50 percent: retained 499"),
+        case(good, &[(of::EXTREME, 1_999_999)], "and not 500"),
+        case(good, &[(of::EXTREME, 8), (of::RETAINED, 1)], "the smallest S with retained 1"),
+        case(good, &[(of::EXTREME, 7), (of::RETAINED, 0)], "one unit less: retained 0"),
+        case(good, &[(of::EXTREME, 6_479_999), (of::RETAINED, 899)], "a sag's extreme one unit below the threshold"),
+        case(good, &[(of::EXTREME, 6_480_000), (of::RETAINED, 900)], "on it"),
+        case(good, &[(of::SHORTFALL, 48_000_000)], "a sag's shortfall 3 x N x R x R x h"),
+        case(good, &[(of::SHORTFALL, 48_000_001)], "one more"),
+        case(good, &[(of::TYPE, 6)], "type 6"),
+        case(good, &[(of::TYPE, 7)], "type 7"),
+        case(swell, &[(of::SHORTFALL, 1)], "a swell with a shortfall"),
+        case(swell, &[(of::TYPE, 1)], "a swell with a type"),
+        case(interruption, &[(of::SHORTFALL, 1)], "an interruption with a shortfall"),
+        case(interruption, &[(of::TYPE, 1)], "an interruption with a type"),
+    ]
+}

@@ -1,0 +1,114 @@
+//! The second table of cases, crates/rules/specs/Cases.antt: the file is what the second program writes, its linear form and
+//! the proved library give the same answers, and the cases reach every corner that can be told from an answer.
+use oracle::cases::{sections, text, Answer, Asked, Program, FILE, SECOND};
+use oracle::{plain, Settings};
+use std::collections::BTreeSet;
+
+const LINEAR: Program = Program { list: plain::list, add: plain::add, ..SECOND };
+
+const PROVED: Program = Program {
+    list: host::list,
+    add: host::add,
+    fresh: host::fresh,
+    score: host::score,
+    reason: host::reason,
+    cell: host::cell,
+};
+
+#[test]
+fn the_file_is_what_the_second_program_writes() {
+    let file = std::fs::read_to_string(FILE).unwrap();
+    let written = text(&SECOND);
+    for (number, (found, expected)) in file.lines().zip(written.lines()).enumerate() {
+        assert_eq!(found, expected, "line {} of Cases.antt", number + 1);
+    }
+    assert_eq!(file, written, "Cases.antt has another length");
+}
+
+/// Each case's name, as in the file, and its question.
+fn all() -> Vec<(String, Asked)> {
+    let cases = sections().into_iter().flat_map(|section| section.cases);
+    cases.enumerate().map(|(i, case)| (format!("C{}: {}", i + 1, case.pins), case.asked)).collect()
+}
+
+#[test]
+fn the_other_programs_give_the_same_answers() {
+    for (name, asked) in all() {
+        let expected = SECOND.answer(&asked).text();
+        assert_eq!(LINEAR.answer(&asked).text(), expected, "the linear form, {name}");
+        assert_eq!(PROVED.answer(&asked).text(), expected, "the proved library, {name}");
+    }
+}
+
+/// No two cases ask the same.
+#[test]
+fn each_question_is_asked_once() {
+    let mut asked_before = BTreeSet::new();
+    for (name, asked) in all() {
+        assert!(asked_before.insert(asked.text()), "{name} asks again: {}", asked.text());
+    }
+}
+
+/// What the answers reach.
+#[derive(Default)]
+struct Reached {
+    refusals_of_list: BTreeSet<u64>,
+    refusals_of_add: BTreeSet<u64>,
+    bad_settings: BTreeSet<u64>,
+    kinds_and_seen: BTreeSet<(u64, u64)>,
+    types: BTreeSet<u64>,
+    reasons: BTreeSet<u64>,
+    rows: BTreeSet<u64>,
+    columns: BTreeSet<(u64, u64)>,
+}
+
+impl Reached {
+    fn note(&mut self, asked: &Asked, answer: &Answer) {
+        match (asked, answer) {
+            (Asked::List { .. }, Answer::List { told: Ok(events), run }) => {
+                for event in run.chunks_exact(8).take(*events as usize) {
+                    self.kinds_and_seen.insert((event[0], event[3]));
+                    if event[0] == 1 {
+                        self.types.insert(event[7]);
+                    }
+                }
+            }
+            (Asked::List { .. }, Answer::List { told: Err(refused), .. }) => {
+                self.refusals_of_list.insert(refused.number);
+            }
+            (Asked::Add { .. }, Answer::Site { told: Err(refused), .. }) => {
+                self.refusals_of_add.insert(refused.number);
+            }
+            (Asked::Fresh { .. }, Answer::Site { told: Err(refused), .. }) => {
+                self.bad_settings.insert(refused.place);
+            }
+            (Asked::Score { settings: Settings { f, .. }, .. }, Answer::Judged { reason, cell, .. }) => {
+                self.reasons.insert(*reason);
+                if *reason == 0 {
+                    self.rows.insert(cell / 8);
+                    self.columns.insert((*f, cell % 8));
+                }
+            }
+            _ => {}
+        }
+    }
+}
+
+#[test]
+fn every_corner_is_reached() {
+    let mut reached = Reached::default();
+    for (_, asked) in all() {
+        reached.note(&asked, &SECOND.answer(&asked));
+    }
+    let kinds_and_seen = (1..=3).flat_map(|kind| (0..=3).map(move |seen| (kind, seen)));
+    let columns = [50, 60].into_iter().flat_map(|f| (0..8).map(move |column| (f, column)));
+    // Refusal 5, more than 100,000 half-cycles, would take too long to compute there; a law has it.
+    assert_eq!(reached.refusals_of_list, BTreeSet::from([1, 2, 3, 4, 6, 7]));
+    assert_eq!(reached.refusals_of_add, BTreeSet::from([2, 3, 4, 6, 8, 9]));
+    assert_eq!(reached.bad_settings, (1..=7).collect());
+    assert_eq!(reached.kinds_and_seen, kinds_and_seen.collect());
+    assert_eq!(reached.types, (0..=6).collect());
+    assert_eq!(reached.reasons, (0..=6).collect());
+    assert_eq!(reached.rows, (0..=4).collect());
+    assert_eq!(reached.columns, columns.collect());
+}
