@@ -704,78 +704,78 @@ types =
 
 durations : List Case
 durations =
-    -- C132: f 50, h 1: below 2, column 0 (severity 0.5, energy 0.015)
-    score house (event 1 7 8 3 2000000 500 12000000 4) ⟶ scored 0x3fe0_0000_0000_0000 0x3f8e_b851_eb85_1eb8 16
-    -- C133: f 50, h 2: column 1; the curve is 0 (severity 0.5, energy 0.015)
-    ∷ score house (event 1 7 9 3 2000000 500 12000000 4) ⟶ scored 0x3fe0_0000_0000_0000 0x3f8e_b851_eb85_1eb8 17
-    -- C134: f 50, h 3: the curve is 500 (severity 1, energy 0.015)
-    ∷ score house (event 1 7 10 3 2000000 500 12000000 4) ⟶ scored 0x3ff0_0000_0000_0000 0x3f8e_b851_eb85_1eb8 17
-    -- C135: f 50, h 9: 5h below f, column 1 (severity 1, energy 0.015)
-    ∷ score house (event 1 7 16 3 2000000 500 12000000 4) ⟶ scored 0x3ff0_0000_0000_0000 0x3f8e_b851_eb85_1eb8 17
-    -- C136: f 50, h 10: 5h = f, column 2 (severity 1, energy 0.015)
-    ∷ score house (event 1 7 17 3 2000000 500 12000000 4) ⟶ scored 0x3ff0_0000_0000_0000 0x3f8e_b851_eb85_1eb8 18
-    -- C137: f 50, h 20: 5h = 2f, the curve is 500 (severity 1, energy 0.015)
-    ∷ score house (event 1 7 27 3 2000000 500 12000000 4) ⟶ scored 0x3ff0_0000_0000_0000 0x3f8e_b851_eb85_1eb8 18
-    -- C138: f 50, h 21: the curve is 700 (severity 1.6666666666666667, energy 0.015)
-    ∷ score house (event 1 7 28 3 2000000 500 12000000 4) ⟶ scored 0x3ffa_aaaa_aaaa_aaab 0x3f8e_b851_eb85_1eb8 18
-    -- C139: f 50, h 49: below f, column 2 (severity 1.6666666666666667, energy 0.015)
-    ∷ score house (event 1 7 56 3 2000000 500 12000000 4) ⟶ scored 0x3ffa_aaaa_aaaa_aaab 0x3f8e_b851_eb85_1eb8 18
-    -- C140: f 50, h 50: h = f, column 3; the curve is 700 (severity 1.6666666666666667, energy 0.015)
-    ∷ score house (event 1 7 57 3 2000000 500 12000000 4) ⟶ scored 0x3ffa_aaaa_aaaa_aaab 0x3f8e_b851_eb85_1eb8 19
-    -- C141: f 50, h 51: the curve is 800 (severity 2.5, energy 0.015)
-    ∷ score house (event 1 7 58 3 2000000 500 12000000 4) ⟶ scored 0x4004_0000_0000_0000 0x3f8e_b851_eb85_1eb8 19
-    -- C142: f 50, h 99: below 2f, column 3 (severity 2.5, energy 0.015)
-    ∷ score house (event 1 7 106 3 2000000 500 12000000 4) ⟶ scored 0x4004_0000_0000_0000 0x3f8e_b851_eb85_1eb8 19
-    -- C143: f 50, h 100: h = 2f, column 4 (severity 2.5, energy 0.015)
-    ∷ score house (event 1 7 107 3 2000000 500 12000000 4) ⟶ scored 0x4004_0000_0000_0000 0x3f8e_b851_eb85_1eb8 20
-    -- C144: f 50, h 299: below 6f, column 4 (severity 2.5, energy 0.015)
-    ∷ score house (event 1 7 306 3 2000000 500 12000000 4) ⟶ scored 0x4004_0000_0000_0000 0x3f8e_b851_eb85_1eb8 20
-    -- C145: f 50, h 300: h = 6f, column 5 (severity 2.5, energy 0.015)
-    ∷ score house (event 1 7 307 3 2000000 500 12000000 4) ⟶ scored 0x4004_0000_0000_0000 0x3f8e_b851_eb85_1eb8 21
-    -- C146: f 50, h 1999: below 40f, column 5 (severity 2.5, energy 0.015)
-    ∷ score house (event 1 7 2006 3 2000000 500 12000000 4) ⟶ scored 0x4004_0000_0000_0000 0x3f8e_b851_eb85_1eb8 21
-    -- C147: f 50, h 2000: h = 40f, column 6 (severity 2.5, energy 0.015)
-    ∷ score house (event 1 7 2007 3 2000000 500 12000000 4) ⟶ scored 0x4004_0000_0000_0000 0x3f8e_b851_eb85_1eb8 22
-    -- C148: f 50, h 5999: below 120f, column 6 (severity 2.5, energy 0.015)
-    ∷ score house (event 1 7 6006 3 2000000 500 12000000 4) ⟶ scored 0x4004_0000_0000_0000 0x3f8e_b851_eb85_1eb8 22
-    -- C149: f 50, h 6000: h = 120f, column 7 (severity 2.5, energy 0.015)
-    ∷ score house (event 1 7 6007 3 2000000 500 12000000 4) ⟶ scored 0x4004_0000_0000_0000 0x3f8e_b851_eb85_1eb8 23
-    -- C150: f 60, h 1: below 2, column 0 (severity 0.5, energy 0.012)
-    ∷ score wide (event 1 7 8 3 2000000 500 12000000 4) ⟶ scored 0x3fe0_0000_0000_0000 0x3f88_9374_bc6a_7efa 16
-    -- C151: f 60, h 2: column 1; the curve is 0 (severity 0.5, energy 0.012)
-    ∷ score wide (event 1 7 9 3 2000000 500 12000000 4) ⟶ scored 0x3fe0_0000_0000_0000 0x3f88_9374_bc6a_7efa 17
-    -- C152: f 60, h 3: the curve is 500 (severity 1, energy 0.012)
-    ∷ score wide (event 1 7 10 3 2000000 500 12000000 4) ⟶ scored 0x3ff0_0000_0000_0000 0x3f88_9374_bc6a_7efa 17
-    -- C153: f 60, h 11: 5h below f, column 1 (severity 1, energy 0.012)
-    ∷ score wide (event 1 7 18 3 2000000 500 12000000 4) ⟶ scored 0x3ff0_0000_0000_0000 0x3f88_9374_bc6a_7efa 17
-    -- C154: f 60, h 12: 5h = f, column 2 (severity 1, energy 0.012)
-    ∷ score wide (event 1 7 19 3 2000000 500 12000000 4) ⟶ scored 0x3ff0_0000_0000_0000 0x3f88_9374_bc6a_7efa 18
-    -- C155: f 60, h 24: 5h = 2f, the curve is 500 (severity 1, energy 0.012)
-    ∷ score wide (event 1 7 31 3 2000000 500 12000000 4) ⟶ scored 0x3ff0_0000_0000_0000 0x3f88_9374_bc6a_7efa 18
-    -- C156: f 60, h 25: the curve is 700 (severity 1.6666666666666667, energy 0.012)
-    ∷ score wide (event 1 7 32 3 2000000 500 12000000 4) ⟶ scored 0x3ffa_aaaa_aaaa_aaab 0x3f88_9374_bc6a_7efa 18
-    -- C157: f 60, h 59: below f, column 2 (severity 1.6666666666666667, energy 0.012)
-    ∷ score wide (event 1 7 66 3 2000000 500 12000000 4) ⟶ scored 0x3ffa_aaaa_aaaa_aaab 0x3f88_9374_bc6a_7efa 18
-    -- C158: f 60, h 60: h = f, column 3; the curve is 700 (severity 1.6666666666666667, energy 0.012)
-    ∷ score wide (event 1 7 67 3 2000000 500 12000000 4) ⟶ scored 0x3ffa_aaaa_aaaa_aaab 0x3f88_9374_bc6a_7efa 19
-    -- C159: f 60, h 61: the curve is 800 (severity 2.5, energy 0.012)
-    ∷ score wide (event 1 7 68 3 2000000 500 12000000 4) ⟶ scored 0x4004_0000_0000_0000 0x3f88_9374_bc6a_7efa 19
-    -- C160: f 60, h 119: below 2f, column 3 (severity 2.5, energy 0.012)
-    ∷ score wide (event 1 7 126 3 2000000 500 12000000 4) ⟶ scored 0x4004_0000_0000_0000 0x3f88_9374_bc6a_7efa 19
-    -- C161: f 60, h 120: h = 2f, column 4 (severity 2.5, energy 0.012)
-    ∷ score wide (event 1 7 127 3 2000000 500 12000000 4) ⟶ scored 0x4004_0000_0000_0000 0x3f88_9374_bc6a_7efa 20
-    -- C162: f 60, h 359: below 6f, column 4 (severity 2.5, energy 0.012)
-    ∷ score wide (event 1 7 366 3 2000000 500 12000000 4) ⟶ scored 0x4004_0000_0000_0000 0x3f88_9374_bc6a_7efa 20
-    -- C163: f 60, h 360: h = 6f, column 5 (severity 2.5, energy 0.012)
-    ∷ score wide (event 1 7 367 3 2000000 500 12000000 4) ⟶ scored 0x4004_0000_0000_0000 0x3f88_9374_bc6a_7efa 21
-    -- C164: f 60, h 2399: below 40f, column 5 (severity 2.5, energy 0.012)
-    ∷ score wide (event 1 7 2406 3 2000000 500 12000000 4) ⟶ scored 0x4004_0000_0000_0000 0x3f88_9374_bc6a_7efa 21
-    -- C165: f 60, h 2400: h = 40f, column 6 (severity 2.5, energy 0.012)
-    ∷ score wide (event 1 7 2407 3 2000000 500 12000000 4) ⟶ scored 0x4004_0000_0000_0000 0x3f88_9374_bc6a_7efa 22
-    -- C166: f 60, h 7199: below 120f, column 6 (severity 2.5, energy 0.012)
-    ∷ score wide (event 1 7 7206 3 2000000 500 12000000 4) ⟶ scored 0x4004_0000_0000_0000 0x3f88_9374_bc6a_7efa 22
-    -- C167: f 60, h 7200: h = 120f, column 7 (severity 2.5, energy 0.012)
-    ∷ score wide (event 1 7 7207 3 2000000 500 12000000 4) ⟶ scored 0x4004_0000_0000_0000 0x3f88_9374_bc6a_7efa 23
+    -- C132: f 50, h 1: below 2, column 0 (severity 0.8, energy 0.015)
+    score house (event 1 7 8 3 320000 200 12000000 4) ⟶ scored 0x3fe9_9999_9999_999a 0x3f8e_b851_eb85_1eb8 8
+    -- C133: f 50, h 2: column 1; the curve is 0 (severity 0.8, energy 0.015)
+    ∷ score house (event 1 7 9 3 320000 200 12000000 4) ⟶ scored 0x3fe9_9999_9999_999a 0x3f8e_b851_eb85_1eb8 9
+    -- C134: f 50, h 3: the curve is 500 (severity 1.6, energy 0.015)
+    ∷ score house (event 1 7 10 3 320000 200 12000000 4) ⟶ scored 0x3ff9_9999_9999_999a 0x3f8e_b851_eb85_1eb8 9
+    -- C135: f 50, h 9: 5h below f, column 1 (severity 1.6, energy 0.015)
+    ∷ score house (event 1 7 16 3 320000 200 12000000 4) ⟶ scored 0x3ff9_9999_9999_999a 0x3f8e_b851_eb85_1eb8 9
+    -- C136: f 50, h 10: 5h = f, column 2 (severity 1.6, energy 0.015)
+    ∷ score house (event 1 7 17 3 320000 200 12000000 4) ⟶ scored 0x3ff9_9999_9999_999a 0x3f8e_b851_eb85_1eb8 10
+    -- C137: f 50, h 20: 5h = 2f, the curve is 500 (severity 1.6, energy 0.015)
+    ∷ score house (event 1 7 27 3 320000 200 12000000 4) ⟶ scored 0x3ff9_9999_9999_999a 0x3f8e_b851_eb85_1eb8 10
+    -- C138: f 50, h 21: the curve is 700 (severity 2.6666666666666665, energy 0.015)
+    ∷ score house (event 1 7 28 3 320000 200 12000000 4) ⟶ scored 0x4005_5555_5555_5555 0x3f8e_b851_eb85_1eb8 10
+    -- C139: f 50, h 49: below f, column 2 (severity 2.6666666666666665, energy 0.015)
+    ∷ score house (event 1 7 56 3 320000 200 12000000 4) ⟶ scored 0x4005_5555_5555_5555 0x3f8e_b851_eb85_1eb8 10
+    -- C140: f 50, h 50: h = f, column 3; the curve is 700 (severity 2.6666666666666665, energy 0.015)
+    ∷ score house (event 1 7 57 3 320000 200 12000000 4) ⟶ scored 0x4005_5555_5555_5555 0x3f8e_b851_eb85_1eb8 11
+    -- C141: f 50, h 51: the curve is 800 (severity 4, energy 0.015)
+    ∷ score house (event 1 7 58 3 320000 200 12000000 4) ⟶ scored 0x4010_0000_0000_0000 0x3f8e_b851_eb85_1eb8 11
+    -- C142: f 50, h 99: below 2f, column 3 (severity 4, energy 0.015)
+    ∷ score house (event 1 7 106 3 320000 200 12000000 4) ⟶ scored 0x4010_0000_0000_0000 0x3f8e_b851_eb85_1eb8 11
+    -- C143: f 50, h 100: h = 2f, column 4 (severity 4, energy 0.015)
+    ∷ score house (event 1 7 107 3 320000 200 12000000 4) ⟶ scored 0x4010_0000_0000_0000 0x3f8e_b851_eb85_1eb8 12
+    -- C144: f 50, h 299: below 6f, column 4 (severity 4, energy 0.015)
+    ∷ score house (event 1 7 306 3 320000 200 12000000 4) ⟶ scored 0x4010_0000_0000_0000 0x3f8e_b851_eb85_1eb8 12
+    -- C145: f 50, h 300: h = 6f, column 5 (severity 4, energy 0.015)
+    ∷ score house (event 1 7 307 3 320000 200 12000000 4) ⟶ scored 0x4010_0000_0000_0000 0x3f8e_b851_eb85_1eb8 13
+    -- C146: f 50, h 1999: below 40f, column 5 (severity 4, energy 0.015)
+    ∷ score house (event 1 7 2006 3 320000 200 12000000 4) ⟶ scored 0x4010_0000_0000_0000 0x3f8e_b851_eb85_1eb8 13
+    -- C147: f 50, h 2000: h = 40f, column 6 (severity 4, energy 0.015)
+    ∷ score house (event 1 7 2007 3 320000 200 12000000 4) ⟶ scored 0x4010_0000_0000_0000 0x3f8e_b851_eb85_1eb8 14
+    -- C148: f 50, h 5999: below 120f, column 6 (severity 4, energy 0.015)
+    ∷ score house (event 1 7 6006 3 320000 200 12000000 4) ⟶ scored 0x4010_0000_0000_0000 0x3f8e_b851_eb85_1eb8 14
+    -- C149: f 50, h 6000: h = 120f, column 7 (severity 4, energy 0.015)
+    ∷ score house (event 1 7 6007 3 320000 200 12000000 4) ⟶ scored 0x4010_0000_0000_0000 0x3f8e_b851_eb85_1eb8 15
+    -- C150: f 60, h 1: below 2, column 0 (severity 0.8, energy 0.012)
+    ∷ score wide (event 1 7 8 3 320000 200 12000000 4) ⟶ scored 0x3fe9_9999_9999_999a 0x3f88_9374_bc6a_7efa 8
+    -- C151: f 60, h 2: column 1; the curve is 0 (severity 0.8, energy 0.012)
+    ∷ score wide (event 1 7 9 3 320000 200 12000000 4) ⟶ scored 0x3fe9_9999_9999_999a 0x3f88_9374_bc6a_7efa 9
+    -- C152: f 60, h 3: the curve is 500 (severity 1.6, energy 0.012)
+    ∷ score wide (event 1 7 10 3 320000 200 12000000 4) ⟶ scored 0x3ff9_9999_9999_999a 0x3f88_9374_bc6a_7efa 9
+    -- C153: f 60, h 11: 5h below f, column 1 (severity 1.6, energy 0.012)
+    ∷ score wide (event 1 7 18 3 320000 200 12000000 4) ⟶ scored 0x3ff9_9999_9999_999a 0x3f88_9374_bc6a_7efa 9
+    -- C154: f 60, h 12: 5h = f, column 2 (severity 1.6, energy 0.012)
+    ∷ score wide (event 1 7 19 3 320000 200 12000000 4) ⟶ scored 0x3ff9_9999_9999_999a 0x3f88_9374_bc6a_7efa 10
+    -- C155: f 60, h 24: 5h = 2f, the curve is 500 (severity 1.6, energy 0.012)
+    ∷ score wide (event 1 7 31 3 320000 200 12000000 4) ⟶ scored 0x3ff9_9999_9999_999a 0x3f88_9374_bc6a_7efa 10
+    -- C156: f 60, h 25: the curve is 700 (severity 2.6666666666666665, energy 0.012)
+    ∷ score wide (event 1 7 32 3 320000 200 12000000 4) ⟶ scored 0x4005_5555_5555_5555 0x3f88_9374_bc6a_7efa 10
+    -- C157: f 60, h 59: below f, column 2 (severity 2.6666666666666665, energy 0.012)
+    ∷ score wide (event 1 7 66 3 320000 200 12000000 4) ⟶ scored 0x4005_5555_5555_5555 0x3f88_9374_bc6a_7efa 10
+    -- C158: f 60, h 60: h = f, column 3; the curve is 700 (severity 2.6666666666666665, energy 0.012)
+    ∷ score wide (event 1 7 67 3 320000 200 12000000 4) ⟶ scored 0x4005_5555_5555_5555 0x3f88_9374_bc6a_7efa 11
+    -- C159: f 60, h 61: the curve is 800 (severity 4, energy 0.012)
+    ∷ score wide (event 1 7 68 3 320000 200 12000000 4) ⟶ scored 0x4010_0000_0000_0000 0x3f88_9374_bc6a_7efa 11
+    -- C160: f 60, h 119: below 2f, column 3 (severity 4, energy 0.012)
+    ∷ score wide (event 1 7 126 3 320000 200 12000000 4) ⟶ scored 0x4010_0000_0000_0000 0x3f88_9374_bc6a_7efa 11
+    -- C161: f 60, h 120: h = 2f, column 4 (severity 4, energy 0.012)
+    ∷ score wide (event 1 7 127 3 320000 200 12000000 4) ⟶ scored 0x4010_0000_0000_0000 0x3f88_9374_bc6a_7efa 12
+    -- C162: f 60, h 359: below 6f, column 4 (severity 4, energy 0.012)
+    ∷ score wide (event 1 7 366 3 320000 200 12000000 4) ⟶ scored 0x4010_0000_0000_0000 0x3f88_9374_bc6a_7efa 12
+    -- C163: f 60, h 360: h = 6f, column 5 (severity 4, energy 0.012)
+    ∷ score wide (event 1 7 367 3 320000 200 12000000 4) ⟶ scored 0x4010_0000_0000_0000 0x3f88_9374_bc6a_7efa 13
+    -- C164: f 60, h 2399: below 40f, column 5 (severity 4, energy 0.012)
+    ∷ score wide (event 1 7 2406 3 320000 200 12000000 4) ⟶ scored 0x4010_0000_0000_0000 0x3f88_9374_bc6a_7efa 13
+    -- C165: f 60, h 2400: h = 40f, column 6 (severity 4, energy 0.012)
+    ∷ score wide (event 1 7 2407 3 320000 200 12000000 4) ⟶ scored 0x4010_0000_0000_0000 0x3f88_9374_bc6a_7efa 14
+    -- C166: f 60, h 7199: below 120f, column 6 (severity 4, energy 0.012)
+    ∷ score wide (event 1 7 7206 3 320000 200 12000000 4) ⟶ scored 0x4010_0000_0000_0000 0x3f88_9374_bc6a_7efa 14
+    -- C167: f 60, h 7200: h = 120f, column 7 (severity 4, energy 0.012)
+    ∷ score wide (event 1 7 7207 3 320000 200 12000000 4) ⟶ scored 0x4010_0000_0000_0000 0x3f88_9374_bc6a_7efa 15
     ∷ []
 
 -- ---- rows on both sides of every border

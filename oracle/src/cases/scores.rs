@@ -32,7 +32,7 @@ pub fn durations() -> Section {
     ];
     let sixty = [1, 2, 3, 11, 12, 24, 25, 59, 60, 61, 119, 120, 359, 360, 2_399, 2_400, 7_199, 7_200];
     let case = |s: Settings, h: u64, words: &str| {
-        score(s, sag(&s, h, 2_000_000, 12_000_000), format!("f {}, h {h}: {words}", s.f))
+        score(s, sag(&s, h, 320_000, 12_000_000), format!("f {}, h {h}: {words}", s.f))
     };
     let at_fifty = fifty.iter().map(|&(h, words)| case(HOUSE, h, words));
     let at_sixty = sixty.iter().zip(&fifty).map(|(&h, &(_, words))| case(WIDE, h, words));
