@@ -14,7 +14,7 @@ use Rattle.rules.specs.Recorder.{sampleAt, missing}
 use Rattle.rules.specs.Halves.{samplesOf, square, begin, anyMissing, squares, sumsAt, halvesOf, halfAt}
 use Rattle.rules.specs.declared.Settings.{Settings}
 use Rattle.rules.specs.declared.Half.the-variants.{Unknown, Known}
-use Rattle.rules.proofs.Ranges.{Good}
+use Rattle.rules.specs.Demands.{Good}
 use Rattle.rules.proofs.Bounded.{any-same, sum-same}
 use Rattle.rules.proofs.Samples.{any-at, sum-le, low, square-low}
 use Rattle.halves.specs.Windows.{window, missingIn, squaresIn, sumsIn, halfIn, Ranged, Low}

@@ -10,10 +10,11 @@ use lib.Dec.{ltb}
 use lib.IntN.{ℤ}
 use Rattle.rules.specs.Halves.{halfAt, full}
 use Rattle.rules.specs.Events.{inEvent}
+use Rattle.rules.specs.Demands.{Good, AcceptedRecording}
 use Rattle.rules.proofs.Booleans.{cases}
 use Rattle.rules.proofs.DemandTwo.{extreme-high, short-high}
-use Rattle.rules.proofs.Ranges.{Good, full-high}
-use Rattle.rules.proofs.Samples.{AcceptedRecording, sums-low}
+use Rattle.rules.proofs.Ranges.{full-high}
+use Rattle.rules.proofs.Samples.{sums-low}
 use Rattle.rules.proofs.Longest.{in-known}
 use Rattle.rules.specs.declared.Settings.{Settings}
 use Rattle.rules.specs.declared.Sums.{Sums}

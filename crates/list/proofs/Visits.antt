@@ -12,9 +12,10 @@ use Rattle.rules.specs.Bounded.{before}
 use Rattle.rules.specs.Halves.{known, halfAt}
 use Rattle.rules.specs.Events.{inEvent, starts}
 use Rattle.rules.specs.EventList.{eventFrom, wordsOf}
+use Rattle.rules.specs.Demands.{Good, AcceptedRecording}
 use Rattle.rules.proofs.Booleans.{both}
-use Rattle.rules.proofs.Ranges.{Good, good}
-use Rattle.rules.proofs.Samples.{AcceptedRecording, accepted-recording}
+use Rattle.rules.proofs.Ranges.{good}
+use Rattle.rules.proofs.Samples.{accepted-recording}
 use Rattle.rules.specs.declared.Settings.{Settings}
 use Rattle.rules.specs.declared.Half.{Half}
 use Rattle.rules.specs.declared.Kind.{Kind}

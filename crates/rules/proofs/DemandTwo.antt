@@ -18,7 +18,7 @@ use Rattle.rules.specs.Events.{begins, ends, inEvent, isRun, starts, end
 use Rattle.rules.specs.EventList.{kindNumber, eventFrom, eventsOf}
 use Rattle.rules.specs.Scores.{inBounds, isSag, sagGood, otherGood, isEvent, unseenOf, reasonOf, scoreOf, scoring}
 use Rattle.rules.specs.Refusals.{recordingCheck}
-use Rattle.rules.specs.Demands.{Scorable}
+use Rattle.rules.specs.Demands.{Good, AcceptedRecording, Scorable}
 use Rattle.rules.specs.declared.Settings.{Settings}
 use Rattle.rules.specs.declared.Sums.{Sums}
 use Rattle.rules.specs.declared.Half.{Half}
@@ -33,9 +33,9 @@ use Rattle.rules.proofs.Booleans.{both, not-both, bit-le}
 use Rattle.rules.proofs.Choices.{of-cond, lower}
 use Rattle.rules.proofs.Longest.{starts-run, run-starts, starts-before-end, start-high, end-high, half-past}
 use Rattle.rules.proofs.Order.{in-list}
-use Rattle.rules.proofs.Ranges.{Good, good}
+use Rattle.rules.proofs.Ranges.{good}
 use Rattle.rules.proofs.Runs.{in-next}
-use Rattle.rules.proofs.Samples.{AcceptedRecording, accepted-recording, sums-low, length-six, type-high}
+use Rattle.rules.proofs.Samples.{accepted-recording, sums-low, length-six, type-high}
 use Rattle.rules.proofs.Scorable.{event-bounds, unseen-is, scorable}
 use Rattle.rules.proofs.Shortfall.{three-channels}
 

@@ -9,23 +9,8 @@ use lib.Dec.{leb, eqb}
 use Rattle.rules.specs.declared.Settings.{Settings}
 use Rattle.rules.specs.Recorder.{within, nGood, fGood, badSetting, settingsGood}
 use Rattle.rules.specs.Halves.{full}
+use Rattle.rules.specs.Demands.{Good}
 use Rattle.rules.proofs.Booleans.{both}
-
-pub record Good (s : Settings) : Type 0 where
-  pub n-low : 8 ≤ s .n
-  pub n-high : s .n ≤ 512
-  pub n-even : s .n % 2 ≡ 0
-  pub r-low : 1000 ≤ s .r
-  pub r-high : s .r ≤ 50000
-  pub f-low : 50 ≤ s .f
-  pub f-high : s .f ≤ 60
-  pub sag-low : 50 ≤ s .sag
-  pub sag-high : s .sag ≤ 95
-  pub interruption-low : 1 ≤ s .interruption
-  pub interruption-high : s .interruption ≤ 20
-  pub swell-low : 105 ≤ s .swell
-  pub swell-high : s .swell ≤ 150
-  pub hysteresis-high : s .hysteresis ≤ 5
 
 ranged : (low high x : ℕ) → within low high x ≡ true → (low ≤ x) × (x ≤ high)
 ranged low high x h = let p = both (leb low x) (leb x high) h in (leb-true low x (p .0), leb-true x high (p .1))

@@ -26,11 +26,12 @@ use Rattle.rules.specs.declared.Taken.{Taken}
 use Rattle.rules.specs.declared.Taken.the-variants.{Accepted, Refused}
 use Rattle.rules.specs.declared.Listed.{Listed}
 use Rattle.rules.specs.declared.Listed.the-variants.{Events, Turned}
+use Rattle.rules.specs.Demands.{Good}
 use Rattle.rules.proofs.Booleans.{both, and-true, not-both, cases}
 use Rattle.rules.proofs.Choices.{lower}
 use Rattle.rules.proofs.Longest.{first-between, first-refused}
 use Rattle.rules.proofs.Order.{flat-length}
-use Rattle.rules.proofs.Ranges.{Good, good}
+use Rattle.rules.proofs.Ranges.{good}
 use Rattle.rules.proofs.Runs.{first-is, first-all}
 
 -- ---- settings

@@ -11,8 +11,8 @@ use lib.Dec.{leb}
 use Rattle.rules.specs.declared.Settings.{Settings}
 use Rattle.rules.specs.Halves.{full, below}
 use Rattle.rules.specs.Events.{fits, climb, retainedOf}
-use Rattle.rules.specs.Demands.{IsRetained}
-use Rattle.rules.proofs.Ranges.{Good, full-low, full-least}
+use Rattle.rules.specs.Demands.{Good, IsRetained}
+use Rattle.rules.proofs.Ranges.{full-low, full-least}
 
 pub retained-unique : (m S a b : ℕ) → IsRetained m S a → IsRetained m S b → a ≡ b
 retained-unique m S a b p q = le-antisymm (q .largest a (p .fits)) (p .largest b (q .fits))

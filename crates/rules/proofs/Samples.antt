@@ -15,6 +15,7 @@ use Rattle.rules.specs.Recorder.{sampleAt, missing, inRange, firstBad}
 use Rattle.rules.specs.Halves.{samplesOf, halvesOf, begin, anyMissing, square, squares, sumsAt, halfAt, known}
 use Rattle.rules.specs.Events.{plus, sixBelow, sixSums, numberOfFirst, smallest, largest, typeOf}
 use Rattle.rules.specs.Refusals.{recordingCheck, mostHalfCycles, andThen}
+use Rattle.rules.specs.Demands.{Good, AcceptedRecording}
 use Rattle.rules.specs.declared.Settings.{Settings}
 use Rattle.rules.specs.declared.Sums.{Sums}
 use Rattle.rules.specs.declared.Half.the-variants.{Unknown, Known}
@@ -25,7 +26,6 @@ use Rattle.rules.specs.declared.Taken.the-variants.{Accepted, Refused}
 use Rattle.rules.proofs.Booleans.{both, neither, not-both}
 use Rattle.rules.proofs.Bounded.{all-at, all-true}
 use Rattle.rules.proofs.Longest.{first-between, first-refused}
-use Rattle.rules.proofs.Ranges.{Good}
 
 -- ---- bounded tests and sums
 
@@ -54,13 +54,6 @@ first-found p n = by (all p n) (ltb (firstNot p 0 n) n) refl refl
         absurd (not-both (all p n) (all-true p n (λ i m. first-between p 0 n i (omega arith) (omega arith))) e)
 
 -- ---- an accepted recording: what its check says
-
-pub record AcceptedRecording (s : Settings) (xs : List ℤ) : Type 0 where
-  pub threes : length xs % 3 ≡ 0
-  pub enough : s .n ≤ samplesOf xs
-  pub even : samplesOf xs % (s .n / 2) ≡ 0
-  pub few : halvesOf s xs ≤ 100000
-  pub in-range : (i : ℕ) → i < length xs → inRange (getD xs i (pos 0)) ≡ true
 
 -- a check that accepts does not refuse, and goes on to the next
 pub goes-on : (refused : Bool) (r : Refusal) (next : Taken) → cond refused (Refused r) next ≡ Accepted → (refused ≡ false) × (next ≡ Accepted)

@@ -1,15 +1,16 @@
--- What the theorems of the three demands, and the laws that docs/STATEMENTS.md names beside them, speak of besides the rules: a list in
--- order, what has a score, the largest whole number, places among borders, and recordings offered to a table one after the other.
-use Prim.Native.Nat.{ℕ, suc, _+_, _-_, _*_, _≤_, _<_}
+-- What the theorems of the three demands, and the laws that docs/STATEMENTS.md names beside them, speak of besides the rules: what an
+-- accepting check says, a list in order, what has a score, the largest whole number, places among borders, and recordings offered
+-- to a table one after the other.
+use Prim.Native.Nat.{ℕ, suc, _+_, _-_, _*_, _/_, _%_, _≤_, _<_}
 use mathlib.Core.Path.{_≡_}
 use mathlib.Core.Bool.{Bool, true, not, _&&_, _||_, cond}
 use mathlib.Core.List.{List, [], _∷_}
 use lib.Dec.{leb, ltb, eqb}
-use lib.IntN.{ℤ}
+use lib.IntN.{ℤ, pos}
 use lib.ListN.{length, getD}
 use Rattle.rules.specs.Bounded.{all, count}
-use Rattle.rules.specs.Recorder.{settingsGood}
-use Rattle.rules.specs.Halves.{halfAt, halvesOf, known, full}
+use Rattle.rules.specs.Recorder.{inRange, settingsGood}
+use Rattle.rules.specs.Halves.{samplesOf, halfAt, halvesOf, known, full}
 use Rattle.rules.specs.Events.{begins, ends, starts}
 use Rattle.rules.specs.Scores.{isSag, isEvent}
 use Rattle.rules.specs.Site.{isHealthy, isDisturbed, isUnknown, isPlaced, isUnplaced, sagCell, isStray, sagShort, cells, total, mostHalves}
@@ -23,6 +24,33 @@ use Rattle.rules.specs.declared.Table.{Table}
 use Rattle.rules.specs.declared.Refusal.the-variants.{Full}
 use Rattle.rules.specs.declared.Taken.{Taken}
 use Rattle.rules.specs.declared.Taken.the-variants.{Accepted, Refused}
+
+-- ---- Demand 1: what a check that accepts says, part by part
+
+-- good settings: each in its range
+pub record Good (s : Settings) : Type 0 where
+  pub n-low : 8 ≤ s .n
+  pub n-high : s .n ≤ 512
+  pub n-even : s .n % 2 ≡ 0
+  pub r-low : 1000 ≤ s .r
+  pub r-high : s .r ≤ 50000
+  pub f-low : 50 ≤ s .f
+  pub f-high : s .f ≤ 60
+  pub sag-low : 50 ≤ s .sag
+  pub sag-high : s .sag ≤ 95
+  pub interruption-low : 1 ≤ s .interruption
+  pub interruption-high : s .interruption ≤ 20
+  pub swell-low : 105 ≤ s .swell
+  pub swell-high : s .swell ≤ 150
+  pub hysteresis-high : s .hysteresis ≤ 5
+
+-- an accepted recording: none of the checks 2 to 6 applies
+pub record AcceptedRecording (s : Settings) (xs : List ℤ) : Type 0 where
+  pub threes : length xs % 3 ≡ 0
+  pub enough : s .n ≤ samplesOf xs
+  pub even : samplesOf xs % (s .n / 2) ≡ 0
+  pub few : halvesOf s xs ≤ 100000
+  pub in-range : (i : ℕ) → i < length xs → inRange (getD xs i (pos 0)) ≡ true
 
 -- ---- Demand 2: in an event, told by the half-cycle before; a list in order; what has a score
 

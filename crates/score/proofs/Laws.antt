@@ -16,7 +16,8 @@ use Rattle.rules.specs.declared.Settings.{Settings}
 use Rattle.rules.specs.Halves.{full, atMost}
 use Rattle.rules.specs.Scores.{curveOf}
 use Rattle.rules.specs.Site.{placeOf, rowBorders, rowOf, columnBorders, columnOf}
-use Rattle.rules.proofs.Ranges.{Good, full-least, full-high}
+use Rattle.rules.specs.Demands.{Good}
+use Rattle.rules.proofs.Ranges.{full-least, full-high}
 
 -- ---- floats
 
@@ -95,17 +96,17 @@ place-same : (p q : ℕ → Bool) (f : ℕ → ℕ) → ((b : ℕ) → p b ≡ q
 place-same p q f h [] = refl
 place-same p q f h (b ∷ bs) = rw (h b, place-same p q f h bs)
 
-pub row-is : (s : Settings) (S : ℕ)
+pub row-by-marks : (s : Settings) (S : ℕ)
     → placeOf (λ b. ltb b (10000 * S)) (100 * full s ∷ 1600 * full s ∷ 4900 * full s ∷ 7225 * full s ∷ []) ≡ rowOf s S
 unfolding rowOf
-row-is s S =
+row-by-marks s S =
     sym
     (place-same (λ p. not (atMost s p S)) (λ b. ltb b (10000 * S)) (λ p. p * p * full s) (λ p. above-is (p * p * full s) (10000 * S)) rowBorders)
 
-pub column-is : (f h : ℕ)
+pub column-by-fifths : (f h : ℕ)
     → placeOf (λ b. ltb b (5 * h + 1)) (10 ∷ f ∷ 5 * f ∷ 10 * f ∷ 30 * f ∷ 200 * f ∷ 600 * f ∷ []) ≡ columnOf f h
 unfolding columnOf
-column-is f h =
+column-by-fifths f h =
     let a : 10 * f ≡ 5 * (2 * f) = omega arith in
     let b : 30 * f ≡ 5 * (6 * f) = omega arith in
     let c : 200 * f ≡ 5 * (40 * f) = omega arith in

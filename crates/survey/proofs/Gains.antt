@@ -16,13 +16,13 @@ use Rattle.rules.specs.Halves.{known, halfAt, halvesOf, full}
 use Rattle.rules.specs.Events.{inEvent, starts}
 use Rattle.rules.specs.EventList.{eventFrom}
 use Rattle.rules.specs.Site.{cells, cellAt, isPlaced, isUnplaced, sagCell, isStray, sagShortfalls, sagShort, cellsFrom}
+use Rattle.rules.specs.Demands.{Good, AcceptedRecording}
 use Rattle.rules.proofs.Booleans.{cases, bit-le}
 use Rattle.rules.proofs.Bounded.{sum-same}
 use Rattle.rules.proofs.Choices.{lower}
 use Rattle.rules.proofs.Longest.{in-past, half-past}
 use Rattle.rules.proofs.Borders.{sag-cell-high}
-use Rattle.rules.proofs.Ranges.{Good, full-high}
-use Rattle.rules.proofs.Samples.{AcceptedRecording}
+use Rattle.rules.proofs.Ranges.{full-high}
 use Rattle.rules.proofs.Shortfall.{shortfalls-agree}
 use Rattle.rules.proofs.DemandThree.{cells-length, cells-at, sag-short-high}
 use Rattle.rules.specs.declared.Settings.{Settings}

@@ -13,10 +13,11 @@ use Rattle.rules.specs.Halves.{known, halfAt, halvesOf}
 use Rattle.rules.specs.Events.{starts}
 use Rattle.rules.specs.Site.{cells, inAny, isHealthy, isDisturbed, isUnknown, empty, grown}
 use Rattle.rules.specs.Refusals.{recordingCheck}
+use Rattle.rules.specs.Demands.{Good, AcceptedRecording}
 use Rattle.rules.proofs.Bounded.{count-le}
 use Rattle.rules.proofs.Longest.{in-past, half-past}
-use Rattle.rules.proofs.Ranges.{Good, good}
-use Rattle.rules.proofs.Samples.{AcceptedRecording, accepted-recording}
+use Rattle.rules.proofs.Ranges.{good}
+use Rattle.rules.proofs.Samples.{accepted-recording}
 use Rattle.rules.specs.declared.Settings.{Settings}
 use Rattle.rules.specs.declared.Half.{Half}
 use Rattle.rules.specs.declared.Kind.the-variants.{Sag, Interruption, Swell}

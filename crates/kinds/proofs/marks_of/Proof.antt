@@ -1,7 +1,8 @@
 -- Good settings keep each percentage at 200 at the most and N x R x R in range, so each mark fits; the kind picks the case. Assumes nothing.
 use Prim.Native.Nat.{_≤_}
 use native.Mathlib.Omega.{arith}
-use Rattle.rules.proofs.Ranges.{Good, good, full-high}
+use Rattle.rules.specs.Demands.{Good}
+use Rattle.rules.proofs.Ranges.{good, full-high}
 use borrow.Author.Needs.{needs}
 use Rattle.kinds.proofs.marks_of.Statement.{statement}
 use Rattle.kinds.proofs.marks_of.Tie as tie

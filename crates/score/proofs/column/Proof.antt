@@ -1,7 +1,7 @@
 -- `score::column` meets its contract: its borders are the rules', in fifths of a half-cycle.
 use mathlib.Core.Path.{_∙_}
 use borrow.Author.Needs.{needs}
-use Rattle.score.proofs.Laws.{column-is}
+use Rattle.score.proofs.Laws.{column-by-fifths}
 use Rattle.score.proofs.column.Statement.{statement}
 use Rattle.score.proofs.column.Tie as tie
 
@@ -33,7 +33,7 @@ place-requires : tie.Need-place-requires
 place-requires c κs = search needs
 
 returns : tie.Need-returns
-returns c = c .place .ensures ∙ column-is _ _
+returns c = c .place .ensures ∙ column-by-fifths _ _
 
 pub column-spec : {M : Type 1} → statement M
 column-spec =

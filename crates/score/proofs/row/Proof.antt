@@ -5,7 +5,7 @@ use native.Mathlib.Omega.{arith}
 use borrow.Author.Needs.{needs}
 use Rattle.rules.specs.Halves.{full}
 use Rattle.rules.proofs.Ranges.{good, full-high}
-use Rattle.score.proofs.Laws.{row-is}
+use Rattle.score.proofs.Laws.{row-by-marks}
 use Rattle.score.proofs.row.Statement.{statement}
 use Rattle.score.proofs.row.Tie as tie
 
@@ -39,7 +39,7 @@ place-requires c κs = search needs
 returns : tie.Need-returns
 returns c =
     let m : c .before .before .full-of .result ≡ full (c .before .before .before .args .s) = c .before .before .full-of .ensures in
-    rw m at (c .place .ensures) ∙ row-is _ _
+    rw m at (c .place .ensures) ∙ row-by-marks _ _
 
 pub row-spec : {M : Type 1} → statement M
 row-spec =

@@ -4,7 +4,8 @@ use native.Mathlib.Nat.{mul-le-mul}
 use native.Mathlib.Omega.{arith}
 use borrow.Author.Needs.{needs}
 use Rattle.rules.specs.Scores.{sagGood}
-use Rattle.rules.proofs.Ranges.{Good, good, full-high, square-high, share-high}
+use Rattle.rules.specs.Demands.{Good}
+use Rattle.rules.proofs.Ranges.{good, full-high, square-high, share-high}
 use Rattle.rules.proofs.Scorable.{InBounds, in-bounds}
 use Rattle.score.proofs.sag_good.Statement.{statement}
 use Rattle.score.proofs.sag_good.Tie as tie
