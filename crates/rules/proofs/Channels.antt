@@ -83,7 +83,8 @@ module _ (t : ℕ → Bool) (P : ℕ → Type 0) (says : (S : ℕ) → (t S ≡ 
 
 -- ---- the comparisons, in plain arithmetic
 
-percent-is : (s : Settings) (p : ℕ) → p * p * full s ≡ percent s p
+-- p x p x N x R x R, written out
+pub percent-is : (s : Settings) (p : ℕ) → p * p * full s ≡ percent s p
 unfolding full
 percent-is s p = omega arith
 

@@ -1,6 +1,6 @@
 -- What the theorems of the three demands, and the laws that docs/STATEMENTS.md names beside them, speak of besides the rules: what an
--- accepting check says, a list in order, what has a score, the largest whole number, places among borders, and recordings offered
--- to a table one after the other.
+-- accepting check says, in an event told by the half-cycle before, a list in order, what has a score, the largest whole number,
+-- places among borders, recordings offered to a table one after the other, and a sound table.
 use Prim.Native.Nat.{ℕ, suc, _+_, _-_, _*_, _/_, _%_, _≤_, _<_}
 use mathlib.Core.Path.{_≡_}
 use mathlib.Core.Bool.{Bool, true, not, _&&_, _||_, cond}
@@ -112,10 +112,11 @@ abbrev pub taken : Table → List (List ℤ) → List (List ℤ)
 taken t [] = []
 taken t (xs ∷ rs) = let rest = taken (added t xs .table) rs in byCheck (addCheck t xs) (xs ∷ rest) (λ r. rest)
 
--- the same told with no table: s its settings, n the half-cycles so far
+-- the check of one recording told with no table: s its settings, n the half-cycles so far
 abbrev pub admits : Settings → ℕ → List ℤ → Taken
 admits s n xs = andThen (recordingCheck s xs) (cond (ltb mostHalves (n + halvesOf s xs)) (Refused (Full (mostHalves - n))) Accepted)
 
+-- those that are accepted at their turn, told so
 abbrev pub admitted : Settings → ℕ → List (List ℤ) → List (List ℤ)
 admitted s n [] = []
 admitted s n (xs ∷ rs) =
@@ -132,7 +133,8 @@ sumOver g (xs ∷ rs) = g xs + sumOver g rs
 abbrev pub placedIn : Settings → List ℤ → ℕ → ℕ
 placedIn s xs i = let h = halfAt s xs in let n = halvesOf s xs in count (λ k. isPlaced s h n k && eqb (sagCell s h n k) i) n
 
--- what a table that is not unsound is, part by part: each of the rules' seven conditions turned round
+-- what a table that is not unsound is, part by part: each of the rules' seven conditions turned round, the
+-- one on event kinds as three
 pub record Sound (t : Table) : Type 0 where
   pub good-settings : settingsGood (t .settings) ≡ true
   pub total-high : t .total ≤ 4000000
