@@ -40,24 +40,18 @@ pub fn add(table: &mut Table, samples: &[i32]) -> Result<(), Refused> {
     Ok(())
 }
 
-/// Counts the events, sorted by start, into the table.
+/// Counts the events into the table.
 fn count(table: &mut Table, s: &Settings, events: &[Event]) {
-    let mut last_sag_end = 0;
     for event in events {
-        let [kind, _, end, seen, _, _, shortfall, _] = *event;
+        let [kind, _, _, seen, _, _, shortfall, _] = *event;
         match kind {
             SAG => {
                 table[at::SAGS] += 1;
                 table[at::SHORTFALL] += shortfall;
                 let placed = if seen == 3 { at::CELLS + score::cell(s, event) as usize } else { at::UNPLACED };
                 table[placed] += 1;
-                last_sag_end = end;
             }
-            INTERRUPTION => {
-                table[at::INTERRUPTIONS] += 1;
-                // Sags don't overlap each other, so only the last one to start can contain the interruption.
-                table[at::STRAY] += u64::from(end > last_sag_end);
-            }
+            INTERRUPTION => table[at::INTERRUPTIONS] += 1,
             _ => table[at::SWELLS] += 1,
         }
     }

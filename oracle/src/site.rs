@@ -16,8 +16,7 @@ pub mod at {
     pub const SAGS: usize = 52;
     pub const INTERRUPTIONS: usize = 53;
     pub const SWELLS: usize = 54;
-    pub const STRAY: usize = 55;
-    pub const SHORTFALL: usize = 56;
+    pub const SHORTFALL: usize = 55;
 }
 
 /// The settings that a table holds.
@@ -54,7 +53,6 @@ pub fn sound(t: &Table) -> bool {
         && sum(at::HEALTHY..=at::UNKNOWN) == u128::from(t[at::TOTAL])
         && sum(at::CELLS..=at::UNPLACED) == u128::from(t[at::SAGS])
         && t[at::SAGS..=at::SWELLS].iter().all(|&events| events <= t[at::TOTAL])
-        && t[at::STRAY] <= t[at::INTERRUPTIONS]
         && u128::from(t[at::SHORTFALL]) <= 3 * reference(&s) * u128::from(t[at::TOTAL])
 }
 

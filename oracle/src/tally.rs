@@ -38,13 +38,7 @@ fn count_events(table: &mut Table, events: &[Event]) {
         table[if both_seen { at::CELLS + cell(&s, sag) as usize } else { at::UNPLACED }] += 1;
         table[at::SHORTFALL] += sag[6];
     }
-    let stray = of(2).filter(|interruption| !of(1).any(|sag| contains(sag, interruption)));
     table[at::SAGS] += of(1).count() as u64;
     table[at::INTERRUPTIONS] += of(2).count() as u64;
     table[at::SWELLS] += of(3).count() as u64;
-    table[at::STRAY] += stray.count() as u64;
-}
-
-fn contains(outer: &Event, inner: &Event) -> bool {
-    outer[1] <= inner[1] && inner[2] <= outer[2]
 }

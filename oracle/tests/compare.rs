@@ -1,7 +1,7 @@
 //! The gate's comparison of the proved library with the second program, and what it stands on: the linear form agrees with
 //! the naive one, and the drawn cases reach every corner of the rules.
 use oracle::compare::{draw, of_the_oracle, run, Case, Drawn, Report, Until};
-use oracle::{plain, recording, settings, site};
+use oracle::{plain, recording, settings, site, Event, Settings};
 use std::collections::BTreeSet;
 use std::process::Command;
 
@@ -75,10 +75,38 @@ fn the_linear_form_agrees_with_the_naive_one() {
     assert!(compared > 5_000, "only {compared} compared");
 }
 
-fn short(s: &oracle::Settings, samples: &[i32]) -> bool {
+fn short(s: &Settings, samples: &[i32]) -> bool {
     settings::first_bad(s).is_some()
         || recording::check(s, samples).is_err()
         || recording::half_cycles(s, samples) <= SHORT
+}
+
+/// What is proved of the definitions, tried on the second program: with good settings an interruption lies in exactly one
+/// sag. Sag 10 and interruption 20 are no good settings, and some interruptions then lie in none.
+#[test]
+fn each_interruption_lies_in_exactly_one_sag() {
+    let (mut within, mut outside) = (0, 0);
+    for number in 0..40_000 {
+        let Case::List { settings, samples, .. } = draw(SEED + 2, number).case else { continue };
+        if settings::check(&settings).is_err() || recording::check(&settings, &samples).is_err() {
+            continue;
+        }
+        for sags in sags_over_each_interruption(&settings, &samples) {
+            assert_eq!(sags, 1, "case {number}");
+            within += 1;
+        }
+        let deep = Settings { sag: 10, interruption: 20, ..settings };
+        outside += sags_over_each_interruption(&deep, &samples).iter().filter(|sags| **sags == 0).count();
+    }
+    assert!(within > 1_000 && outside > 1_000, "{within} within a sag, {outside} outside with other settings");
+}
+
+/// For each interruption, how many sags start no later and end no earlier.
+fn sags_over_each_interruption(s: &Settings, samples: &[i32]) -> Vec<usize> {
+    let events = plain::walk(s, samples).events;
+    let of = |kind: u64| events.iter().filter(move |event| event[0] == kind);
+    let over = |inner: &Event| of(1).filter(|sag| sag[1] <= inner[1] && inner[2] <= sag[2]).count();
+    of(2).map(over).collect()
 }
 
 /// What the drawn cases reach, by the second program's answers.

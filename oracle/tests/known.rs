@@ -1,7 +1,7 @@
 //! The known answers K1 to K12 of the rules, held against the second program, its linear form and the proved library.
 use oracle::recording::MISSING;
 use oracle::site::at;
-use oracle::{Event, Refused, Settings, Table};
+use oracle::{Event, Refused, Settings, Table, TABLE};
 
 const SETTINGS: Settings = Settings { n: 8, r: 1_000, f: 50, sag: 90, interruption: 10, swell: 110, hysteresis: 2 };
 
@@ -187,12 +187,12 @@ fn what_is_turned_away() {
         assert_eq!(list(&SETTINGS, &out_of_range, &mut room), Err(Refused { number: 6, place: 5 }), "{program}");
         assert_eq!(list(&SETTINGS, &k2, &mut room), Err(Refused { number: 7, place: 1 }), "{program}");
         assert_eq!(room, [77; 7], "{program} wrote in spite of a refusal");
-        let mut table = [0; 57];
+        let mut table = [0; TABLE];
         assert_eq!(add(&mut table, &k2), Err(Refused { number: 9, place: 0 }), "{program}");
-        assert_eq!(table, [0; 57], "{program} changed the table in spite of a refusal");
+        assert_eq!(table, [0; TABLE], "{program} changed the table in spite of a refusal");
     }
     let bad = Settings { f: 55, ..SETTINGS };
     for (refused, table) in [oracle::fresh(&bad), host::fresh(&bad)] {
-        assert_eq!((refused, table), (Err(Refused { number: 1, place: 3 }), [0; 57]));
+        assert_eq!((refused, table), (Err(Refused { number: 1, place: 3 }), [0; TABLE]));
     }
 }

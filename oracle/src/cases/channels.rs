@@ -81,7 +81,7 @@ pub fn interruptions() -> Section {
                 amid(even(2, 0) + uneven(2, 0, 110, 119) + even(1, 0)),
                 "channels above the threshold and below threshold plus hysteresis do not end it",
             ),
-            add_first(HOUSE, twice, "two interruptions in one sag, in the table: none is stray"),
+            add_first(HOUSE, twice, "two interruptions in one sag, in the table"),
         ],
     }
 }
@@ -146,7 +146,7 @@ pub fn overlaps() -> Section {
             list(HOUSE, lap.clone(), "a swell starts in a sag and outlasts it"),
             add_first(HOUSE, lap, "the same, in the table"),
             list(HOUSE, rise.clone(), "a sag with an interruption and a swell in it"),
-            add_first(HOUSE, rise, "the same, in the table: the interruption is not stray"),
+            add_first(HOUSE, rise, "the same, in the table"),
         ],
     }
 }

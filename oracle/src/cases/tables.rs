@@ -2,7 +2,7 @@
 use super::recording::{alike, amid, even, sines, uneven, Recording};
 use super::{add, add_first, with, Case, Section, HOUSE, TEN, WIDE};
 use crate::site::at;
-use crate::{fresh, Settings, Table};
+use crate::{fresh, Settings, Table, TABLE};
 
 /// Each number as large as it may be beside a total of 2.
 fn brim(s: Settings) -> Table {
@@ -15,7 +15,6 @@ fn brim(s: Settings) -> Table {
         (at::SAGS, 2),
         (at::INTERRUPTIONS, 2),
         (at::SWELLS, 2),
-        (at::STRAY, 2),
         (at::SHORTFALL, 6 * s.n * s.r * s.r),
     ];
     with(fresh(&s).1, &counts)
@@ -30,7 +29,7 @@ pub fn healthy_only(total: u64) -> Table {
 type Broken = (&'static [(usize, u64)], &'static str);
 
 /// Each condition of a sound table, broken by one.
-const BROKEN: [Broken; 14] = [
+const BROKEN: [Broken; 13] = [
     (&[(2, 51)], "its settings bad: f 51"),
     (&[(at::HEALTHY, 0)], "a healthy half-cycle too few"),
     (&[(at::DISTURBED, 2)], "a disturbed half-cycle too many"),
@@ -43,15 +42,17 @@ const BROKEN: [Broken; 14] = [
     (&[(at::SAGS, 3), (at::UNPLACED, 2)], "sags one above the total"),
     (&[(at::INTERRUPTIONS, 3)], "interruptions one above the total"),
     (&[(at::SWELLS, 3)], "swells one above the total"),
-    (&[(at::INTERRUPTIONS, 1)], "stray interruptions one above the interruptions"),
     (&[(at::SHORTFALL, 48_000_001)], "shortfall one above 3 x N x R x R x total"),
 ];
 
 pub fn sound() -> Section {
     let calm = || even(2, 1000);
+    let one_sag = [(at::SAGS, 1), (at::UNPLACED, 0)];
+    let no_sag = [(at::SAGS, 0), (at::UNPLACED, 0), (at::CELLS + 17, 0)];
     let mut cases = vec![
         add(brim(HOUSE), calm(), "each number as large as it may be beside the total: sound"),
-        add(with(brim(HOUSE), &[(at::INTERRUPTIONS, 1), (at::STRAY, 1)]), calm(), "all interruptions stray: sound"),
+        add(with(brim(HOUSE), &one_sag), calm(), "two interruptions beside one sag: sound"),
+        add(with(brim(HOUSE), &no_sag), calm(), "and beside none: sound, since no condition speaks of both"),
     ];
     cases.extend(BROKEN.map(|(changes, words)| add(with(brim(HOUSE), changes), calm(), words)));
     let ten = || alike(10, 1001, 1001, 1001);
@@ -62,7 +63,7 @@ pub fn sound() -> Section {
         add(healthy_only(3_999_999), calm(), "room for one half-cycle more: filled to 4,000,000"),
         add(healthy_only(4_000_000), calm(), "a total of 4,000,000 is sound, and full"),
         add(healthy_only(4_000_001), calm(), "a total of 4,000,001 is unsound"),
-        add([0; 57], calm(), "a table of zeros is unsound"),
+        add([0; TABLE], calm(), "a table of zeros is unsound"),
     ]);
     Section { name: "sound", about: "sound and unsound tables, each condition broken by one", cases }
 }
@@ -78,7 +79,6 @@ pub fn various() -> Table {
         (at::SAGS, 4_877),
         (at::INTERRUPTIONS, 611),
         (at::SWELLS, 713),
-        (at::STRAY, 19),
         (at::SHORTFALL, 1_234_567),
     ];
     let mut table = with(fresh(&HOUSE).1, &counts);

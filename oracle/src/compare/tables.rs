@@ -34,7 +34,6 @@ fn sound(random: &mut Random, s: &Settings, samples: &[i32]) -> Table {
     table[at::SAGS..=at::SWELLS].fill_with(|| up_to(random, total));
     let sags = table[at::SAGS];
     share(random, sags, &mut table[at::CELLS..=at::UNPLACED]);
-    table[at::STRAY] = up_to(random, table[at::INTERRUPTIONS]);
     table[at::SHORTFALL] = up_to(random, most_shortfall(s, total));
     table
 }
@@ -79,7 +78,7 @@ fn share(random: &mut Random, sum: u64, counts: &mut [u64]) {
 /// A sound table with one condition broken, by one wherever that can be.
 fn broken(random: &mut Random, s: &Settings, samples: &[i32]) -> Table {
     let mut table = sound(random, s, samples);
-    match random.below(12) {
+    match random.below(11) {
         0 => table[random.below(7) as usize] = random.pick(&[0, 7, 513, 999, 50_001, 96, 151, u64::MAX]),
         1 => table[at::TOTAL] += 1,
         2 => table[random.between(at::HEALTHY as u64, at::UNKNOWN as u64) as usize] += 1,
@@ -92,9 +91,8 @@ fn broken(random: &mut Random, s: &Settings, samples: &[i32]) -> Table {
         }
         6 => table[at::INTERRUPTIONS] = table[at::TOTAL] + 1,
         7 => table[at::SWELLS] = table[at::TOTAL] + 1,
-        8 => table[at::STRAY] = table[at::INTERRUPTIONS] + 1,
-        9 => table[at::SHORTFALL] = most_shortfall(s, table[at::TOTAL]) + 1,
-        10 => {
+        8 => table[at::SHORTFALL] = most_shortfall(s, table[at::TOTAL]) + 1,
+        9 => {
             let more = FULLEST + 1 - table[at::TOTAL];
             table[at::TOTAL] += more;
             table[at::HEALTHY] += more;
