@@ -17,7 +17,7 @@ use Rattle.rules.specs.Recorder.{badSetting, settingsGood}
 use Rattle.rules.specs.Halves.{halfAt, halvesOf, full}
 use Rattle.rules.specs.Events.{inEvent, starts, endOf, startSeen, endSeen, seenOf, shorts, three}
 use Rattle.rules.specs.EventList.{eventFrom}
-use Rattle.rules.specs.Site.{cellOf, isHealthy, isDisturbed, isUnknown, isPlaced, isUnplaced, sagCell, isContained, isStray, sagShort, cellsFrom, grown, cells, empty, total, mostHalves, isUnsound}
+use Rattle.rules.specs.Site.{cellOf, isHealthy, isDisturbed, isUnknown, isPlaced, isUnplaced, sagCell, sagShort, cellsFrom, grown, cells, empty, total, mostHalves, isUnsound}
 use Rattle.rules.specs.Refusals.{recordingCheck, settingsCheck, byCheck, andThen, freshened, soundCheck, fullCheck, addCheck, added}
 use Rattle.rules.specs.Demands.{Scorable, offer, taken, admits, admitted, sumOver, placedIn, Sound, SumsUp}
 use Rattle.rules.specs.declared.Settings.{Settings}
@@ -98,18 +98,17 @@ cells-sum g (c ∷ cs) i =
 
 -- ---- sound tables
 
-none-of : (a b c d e f g h i : Bool) → a || b || c || d || (e || f || g) || h || i ≡ false
-    → (a ≡ false) × (b ≡ false) × (c ≡ false) × (d ≡ false) × (e ≡ false) × (f ≡ false) × (g ≡ false) × (h ≡ false) × (i ≡ false)
-none-of a b c d e f g h i q =
-    let x = neither (a || b || c || d || (e || f || g) || h) i q in
-    let y = neither (a || b || c || d || (e || f || g)) h (x .0) in
+none-of : (a b c d e f g h : Bool) → a || b || c || d || (e || f || g) || h ≡ false
+    → (a ≡ false) × (b ≡ false) × (c ≡ false) × (d ≡ false) × (e ≡ false) × (f ≡ false) × (g ≡ false) × (h ≡ false)
+none-of a b c d e f g h q =
+    let y = neither (a || b || c || d || (e || f || g)) h q in
     let z = neither (a || b || c || d) (e || f || g) (y .0) in
     let u = neither (a || b || c) d (z .0) in
     let v = neither (a || b) c (u .0) in
     let w = neither a b (v .0) in
     let k = neither (e || f) g (z .1) in
     let l = neither e f (k .0) in
-    (w .0, w .1, v .1, u .1, l .0, l .1, k .1, y .1, x .1)
+    (w .0, w .1, v .1, u .1, l .0, l .1, k .1, y .1)
 
 pub sound-parts : (t : Table) → isUnsound t ≡ false → Sound t
 unfolding isUnsound
@@ -117,7 +116,7 @@ sound-parts t h =
     let p =
     none-of (not (settingsGood (t .settings))) (ltb mostHalves (t .total)) (not (eqb (t .healthy + t .disturbed + t .unknown) (t .total)))
     (not (eqb (total (t .cells) + t .unplaced) (t .sags))) (ltb (t .total) (t .sags)) (ltb (t .total) (t .interruptions)) (ltb (t .total) (t .swells))
-    (ltb (t .interruptions) (t .stray)) (ltb (3 * full (t .settings) * t .total) (t .shortfall)) h in
+    (ltb (3 * full (t .settings) * t .total) (t .shortfall)) h in
     record {
       good-settings = not-false (settingsGood (t .settings)) (p .0);
       total-high = ltb-false mostHalves (t .total) (p .1);
@@ -126,8 +125,7 @@ sound-parts t h =
       sags-high = ltb-false (t .total) (t .sags) (p .4);
       interruptions-high = ltb-false (t .total) (t .interruptions) (p .5);
       swells-high = ltb-false (t .total) (t .swells) (p .6);
-      stray-high = ltb-false (t .interruptions) (t .stray) (p .7);
-      shortfall-high = ltb-false (3 * full (t .settings) * t .total) (t .shortfall) (p .8);
+      shortfall-high = ltb-false (3 * full (t .settings) * t .total) (t .shortfall) (p .7);
     }
 
 pub sound-made : (t : Table) → Sound t → isUnsound t ≡ false
@@ -141,7 +139,6 @@ sound-made t r =
       le-ltb (t .total) (t .sags) (r .sags-high),
       le-ltb (t .total) (t .interruptions) (r .interruptions-high),
       le-ltb (t .total) (t .swells) (r .swells-high),
-      le-ltb (t .interruptions) (t .stray) (r .stray-high),
       le-ltb (3 * full (t .settings) * t .total) (t .shortfall) (r .shortfall-high),
     )
 
@@ -163,11 +160,6 @@ accepted-adding t xs h =
       recording = q .0;
       fits = ltb-false mostHalves (t .total + halvesOf (t .settings) xs) (goes-on (ltb mostHalves (t .total + halvesOf (t .settings) xs)) (Full (mostHalves - t .total)) Accepted (q .1) .0);
     }
-
--- no more stray interruptions than interruptions
-stray-few : (s : Settings) (h : ℕ → Half) (n m : ℕ) → count (isStray s h n) m ≤ count (starts s h Interruption) m
-unfolding isStray
-stray-few s h n m = omega (arith, count-cut (starts s h Interruption) (λ k. isContained s h n k (endOf s h n Interruption k)) m)
 
 -- each half-cycle adds at most 3 x N x R x R
 pub sag-short-high : (s : Settings) (xs : List ℤ) → sagShort s xs ≤ halvesOf s xs * (3 * full s)
@@ -220,7 +212,6 @@ grown-sound t xs forty ok =
       sags-high = omega (arith, r .sags-high, count-le (starts s h Sag) n);
       interruptions-high = omega (arith, r .interruptions-high, count-le (starts s h Interruption) n);
       swells-high = omega (arith, r .swells-high, count-le (starts s h Swell) n);
-      stray-high = omega (arith, r .stray-high, stray-few s h n n);
       shortfall-high = omega (arith, r .shortfall-high, shortfalls-agree s xs, sag-short-high s xs, mul-add (3 * full s) (t .total) n, mul-comm n (3 * full s));
     }
 
@@ -241,7 +232,6 @@ empty-sound s g =
       sags-high = omega arith;
       interruptions-high = omega arith;
       swells-high = omega arith;
-      stray-high = omega arith;
       shortfall-high = omega arith;
     }
 
@@ -347,7 +337,6 @@ module _ (s : Settings) (g : settingsGood s ≡ true) (rs : List (List ℤ)) whe
         sags = counted (λ t. t .sags) (λ xs. count (starts s (halfAt s xs) Sag) (halvesOf s xs)) (λ t xs r. rw (r .settings)) refl;
         interruptions = counted (λ t. t .interruptions) (λ xs. count (starts s (halfAt s xs) Interruption) (halvesOf s xs)) (λ t xs r. rw (r .settings)) refl;
         swells = counted (λ t. t .swells) (λ xs. count (starts s (halfAt s xs) Swell) (halvesOf s xs)) (λ t xs r. rw (r .settings)) refl;
-        stray = counted (λ t. t .stray) (λ xs. count (isStray s (halfAt s xs) (halvesOf s xs)) (halvesOf s xs)) (λ t xs r. rw (r .settings)) refl;
         shortfall = counted (λ t. t .shortfall) (sagShort s) (λ t xs r. rw (r .settings) (ap (λ x. t .shortfall + x) (shortfalls-agree s xs))) refl;
       }
     where
@@ -384,6 +373,5 @@ only-one-sums-up s t u ok x y =
       sags = (x .sags ∙ sym (y .sags)) i;
       interruptions = (x .interruptions ∙ sym (y .interruptions)) i;
       swells = (x .swells ∙ sym (y .swells)) i;
-      stray = (x .stray ∙ sym (y .stray)) i;
       shortfall = (x .shortfall ∙ sym (y .shortfall)) i;
     }

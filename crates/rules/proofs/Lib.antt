@@ -13,11 +13,11 @@ pub mod Shortfall
 pub mod Samples
 pub mod Retained
 pub mod Scorable
-pub mod Stray
 pub mod DemandTwo
 pub mod DemandThree
 pub mod Channels
 pub mod Exclusive
+pub mod Within
 pub mod Extremes
 pub mod Types
 pub mod Places

@@ -20,7 +20,7 @@ use Rattle.rules.specs.Halves.{halvesOf, anyMissing, squares, sumsAt, ha
 use Rattle.rules.specs.Events.{carries, inRun, inEvent, starts, endOf, seenOf, extremeOf, earliest, climb, retainedOf, shortsOf, sixSums, typeOf}
 use Rattle.rules.specs.EventList.{eventFrom, eventAt, eventsOf}
 use Rattle.rules.specs.Scores.{inBounds, sagGood, isEvent, reasonOf, scoring}
-use Rattle.rules.specs.Site.{rowOf, columnOf, cellOf, isHealthy, isDisturbed, isUnknown, isPlaced, isUnplaced, sagCell, isContained, isStray, sagShortfalls, grown, isUnsound}
+use Rattle.rules.specs.Site.{rowOf, columnOf, cellOf, isHealthy, isDisturbed, isUnknown, isPlaced, isUnplaced, sagCell, sagShortfalls, grown, isUnsound}
 use Rattle.rules.specs.Refusals.{numberOf, placeIn, recordingCheck, settingsCheck, roomCheck, listCheck, listed, written, freshened, soundCheck, fullCheck, addCheck, added}
 use Rattle.rules.specs.declared.Settings.{Settings}
 use Rattle.rules.specs.declared.Event.{Event}
@@ -141,9 +141,9 @@ abbrev table :
     Settings
     → (total healthy disturbed unknown : ℕ)
     → List ℕ
-    → (unplaced sags interruptions swells stray shortfall : ℕ)
+    → (unplaced sags interruptions swells shortfall : ℕ)
     → Table
-table s total healthy disturbed unknown cells unplaced sags interruptions swells stray shortfall =
+table s total healthy disturbed unknown cells unplaced sags interruptions swells shortfall =
     record {
       settings = s;
       total = total;
@@ -155,7 +155,6 @@ table s total healthy disturbed unknown cells unplaced sags interruptions swells
       sags = sags;
       interruptions = interruptions;
       swells = swells;
-      stray = stray;
       shortfall = shortfall;
     }
 
@@ -172,13 +171,13 @@ rising (suc n) from = from ∷ rising n (suc from)
 
 -- a table with nothing in it but its settings; with nothing but healthy half-cycles; with a number of its own in each place
 abbrev blank : Settings → Table
-blank s = table s 0 0 0 0 none 0 0 0 0 0 0
+blank s = table s 0 0 0 0 none 0 0 0 0 0
 
 abbrev healthyOnly : ℕ → Table
-healthyOnly n = table house n n 0 0 none 0 0 0 0 0 0
+healthyOnly n = table house n n 0 0 none 0 0 0 0 0
 
 abbrev various : Table
-various = table house 10012 5003 3001 2008 (rising 40 101) 57 4877 611 713 19 1234567
+various = table house 10012 5003 3001 2008 (rising 40 101) 57 4877 611 713 1234567
 
 -- ---- recordings
 
@@ -252,7 +251,7 @@ sags =
     ⟶ events 1 (run (words 1 1 5 3 2880000 600 28480000 4 ++ nines 1))
     -- C6: the same, in the table
     ∷ add (blank house) (even 2 1000 ++ uneven 1 500 600 700 ++ uneven 1 1000 600 700 ++ uneven 1 1000 1000 700 ++ even 2 1000)
-    ⟶ taken (site (table house 6 2 4 0 (put 17 1 none) 0 1 0 0 0 28480000))
+    ⟶ taken (site (table house 6 2 4 0 (put 17 1 none) 0 1 0 0 28480000))
     -- C7: c first, then b, last a
     ∷ list house 9 (even 2 1000 ++ uneven 1 500 600 700 ++ uneven 1 500 600 1000 ++ uneven 1 500 1000 1000 ++ even 2 1000)
     ⟶ events 1 (run (words 1 1 5 3 2000000 500 32320000 6 ++ nines 1))
@@ -307,9 +306,9 @@ interruptions =
     -- C22: channels above the threshold and below threshold plus hysteresis do not end it
     ∷ list house 17 (even 2 1000 ++ even 2 0 ++ uneven 2 0 110 119 ++ even 1 0 ++ even 2 1000)
     ⟶ events 2 (run (words 1 1 7 3 0 0 119579824 0 ++ words 2 2 6 3 0 0 0 0 ++ nines 1))
-    -- C23: two interruptions in one sag, in the table: none is stray
+    -- C23: two interruptions in one sag, in the table
     ∷ add (blank house) (even 2 1000 ++ even 2 0 ++ uneven 2 0 500 0 ++ even 2 0 ++ even 2 1000)
-    ⟶ taken (site (table house 9 2 7 0 (put 1 1 none) 0 1 2 0 0 140000000))
+    ⟶ taken (site (table house 9 2 7 0 (put 1 1 none) 0 1 2 0 140000000))
     ∷ []
 
 -- ---- swells on unequal channels
@@ -336,7 +335,7 @@ swells =
     ⟶ events 1 (run (words 3 1 4 3 12500000 1250 0 0 ++ nines 1))
     -- C30: hysteresis 5: channel b keeps the swell at 116 percent; in the table
     ∷ add (blank wide) (even 2 1000 ++ uneven 1 1600 1000 1000 ++ uneven 2 1000 1160 1000 ++ even 2 1000)
-    ⟶ taken (site (table wide 6 3 3 0 none 0 0 0 1 0 0))
+    ⟶ taken (site (table wide 6 3 3 0 none 0 0 0 1 0))
     ∷ []
 
 -- ---- events of different kinds at once: by start, then kind
@@ -353,7 +352,7 @@ overlaps =
     ⟶ events 3 (run (words 3 1 2 3 10553600 1148 0 0 ++ words 1 3 6 3 0 0 60000000 0 ++ words 2 3 5 3 0 0 0 0 ++ nines 1))
     -- C34: the same, in the table
     ∷ add (blank house) (even 2 1000 ++ even 1 1280 ++ even 3 0 ++ even 2 1000)
-    ⟶ taken (site (table house 7 3 4 0 (put 1 1 none) 0 1 1 1 0 60000000))
+    ⟶ taken (site (table house 7 3 4 0 (put 1 1 none) 0 1 1 1 60000000))
     -- C35: a sag and a swell start and end together: the sag is first
     ∷ list house 17 (even 2 1000 ++ uneven 2 1200 500 1000 ++ even 2 1000)
     ⟶ events 2 (run (words 1 1 4 3 2000000 500 12000000 3 ++ words 3 1 4 3 11520000 1200 0 0 ++ nines 1))
@@ -363,20 +362,20 @@ overlaps =
     -- C37: the same, in the table: each half-cycle is counted once
     ∷ add (blank house) (even 2 1000 ++ uneven 1 1300 1000 1000 ++ uneven 2 1300 500 1000 ++ uneven 1 1300 1000 1000
     ++ even 2 1000)
-    ⟶ taken (site (table house 7 2 5 0 (put 17 1 none) 0 1 0 1 0 12000000))
+    ⟶ taken (site (table house 7 2 5 0 (put 17 1 none) 0 1 0 1 12000000))
     -- C38: a swell starts in a sag and outlasts it
     ∷ list house 17 (even 2 1000 ++ uneven 2 1000 500 1000 ++ uneven 1 1000 500 1300 ++ uneven 2 1000 1000 1300 ++ even 2 1000)
     ⟶ events 2 (run (words 1 1 5 3 2000000 500 18000000 5 ++ words 3 3 7 3 13520000 1300 0 0 ++ nines 1))
     -- C39: the same, in the table
     ∷ add (blank house) (even 2 1000 ++ uneven 2 1000 500 1000 ++ uneven 1 1000 500 1300 ++ uneven 2 1000 1000 1300
     ++ even 2 1000)
-    ⟶ taken (site (table house 8 2 6 0 (put 17 1 none) 0 1 0 1 0 18000000))
+    ⟶ taken (site (table house 8 2 6 0 (put 17 1 none) 0 1 0 1 18000000))
     -- C40: a sag with an interruption and a swell in it
     ∷ list house 25 (even 2 1000 ++ even 2 0 ++ uneven 2 0 0 1500 ++ even 2 1000)
     ⟶ events 3 (run (words 1 1 6 3 0 0 76000000 0 ++ words 2 2 3 3 0 0 0 0 ++ words 3 4 6 3 18000000 1500 0 0 ++ nines 1))
-    -- C41: the same, in the table: the interruption is not stray
+    -- C41: the same, in the table
     ∷ add (blank house) (even 2 1000 ++ even 2 0 ++ uneven 2 0 0 1500 ++ even 2 1000)
-    ⟶ taken (site (table house 7 2 5 0 (put 1 1 none) 0 1 1 1 0 76000000))
+    ⟶ taken (site (table house 7 2 5 0 (put 1 1 none) 0 1 1 1 76000000))
     ∷ []
 
 -- ---- on each mark, one unit of S above it and one below
@@ -547,13 +546,13 @@ gaps =
     ++ words 2 6 7 2 0 0 0 0 ++ nines 1))
     -- C83: the same, in the table: two of each, the sags unplaced
     ∷ add (blank house) (set (even 2 1000 ++ even 6 0 ++ even 2 1000) 65 lost)
-    ⟶ taken (site (table house 9 2 5 2 none 2 2 2 0 0 96000000))
+    ⟶ taken (site (table house 9 2 5 2 none 2 2 2 0 96000000))
     -- C84: a gap on channel b cuts a swell
     ∷ list house 17 (set (even 2 1000 ++ even 4 1300 ++ even 2 1000) 55 lost)
     ⟶ events 2 (run (words 3 1 3 1 13520000 1300 0 0 ++ words 3 5 6 2 10760000 1159 0 0 ++ nines 1))
     -- C85: the same, in the table
     ∷ add (blank house) (set (even 2 1000 ++ even 4 1300 ++ even 2 1000) 55 lost)
-    ⟶ taken (site (table house 7 2 3 2 none 0 0 0 2 0 0))
+    ⟶ taken (site (table house 7 2 3 2 none 0 0 0 2 0))
     -- C86: a gap in the block before a sag: its start is unseen
     ∷ list house 9 (set (even 2 1000 ++ uneven 2 1000 1000 500 ++ even 2 1000) 13 lost)
     ⟶ events 1 (run (words 1 2 4 2 2000000 500 9000000 6 ++ nines 1))
@@ -574,32 +573,32 @@ gaps =
     ⟶ events 1 (run (words 1 1 4 3 2000000 500 12000000 6 ++ nines 1))
     -- C92: the same, in the table: the sag has its cell, and one half-cycle is unknown
     ∷ add (blank house) (set (even 2 1000 ++ uneven 2 1000 1000 500 ++ even 3 1000) 73 lost)
-    ⟶ taken (site (table house 6 2 3 1 (put 17 1 none) 0 1 0 0 0 12000000))
+    ⟶ taken (site (table house 6 2 3 1 (put 17 1 none) 0 1 0 0 12000000))
     -- C93: a sag whose start is unseen is unplaced
     ∷ add (blank house) (set (even 2 1000 ++ uneven 2 1000 1000 500 ++ even 2 1000) 13 lost)
-    ⟶ taken (site (table house 5 1 2 2 none 1 1 0 0 0 9000000))
+    ⟶ taken (site (table house 5 1 2 2 none 1 1 0 0 9000000))
     -- C94: a sag whose end is unseen is unplaced
     ∷ add (blank house) (set (even 2 1000 ++ uneven 2 1000 1000 500 ++ even 2 1000) 61 lost)
-    ⟶ taken (site (table house 5 1 3 1 none 1 1 0 0 0 12000000))
+    ⟶ taken (site (table house 5 1 3 1 none 1 1 0 0 12000000))
     -- C95: after a gap, 91 percent is no sag: nothing is carried over it
     ∷ list house 9 (set (even 2 1000 ++ even 1 500 ++ even 4 910 ++ even 2 1000) 48 lost)
     ⟶ events 1 (run (words 1 1 3 1 4312400 734 20062800 0 ++ nines 1))
     -- C96: the same, in the table
     ∷ add (blank house) (set (even 2 1000 ++ even 1 500 ++ even 4 910 ++ even 2 1000) 48 lost)
-    ⟶ taken (site (table house 8 4 2 2 none 1 1 0 0 0 20062800))
+    ⟶ taken (site (table house 8 4 2 2 none 1 1 0 0 20062800))
     -- C97: after a gap, 109 percent is no swell
     ∷ list house 9 (set (even 2 1000 ++ even 1 1500 ++ even 4 1090 ++ even 2 1000) 48 lost)
     ⟶ events 1 (run (words 3 1 3 1 13752400 1311 0 0 ++ nines 1))
     -- C98: one lost sample makes both half-cycles unknown: no event
     ∷ list house 1 (set (even 3 500) 16 lost) ⟶ events 0 (run (nines 1))
     -- C99: the same, in the table
-    ∷ add (blank house) (set (even 3 500) 16 lost) ⟶ taken (site (table house 2 0 0 2 none 0 0 0 0 0 0))
+    ∷ add (blank house) (set (even 3 500) 16 lost) ⟶ taken (site (table house 2 0 0 2 none 0 0 0 0 0))
     -- C100: the first sample of all lost
     ∷ list house 9 (set (even 4 500) 0 lost) ⟶ events 1 (run (words 1 1 3 0 2000000 500 36000000 0 ++ nines 1))
     -- C101: the last sample of all lost
     ∷ list wide 9 (set (even 4 500) 47 lost) ⟶ events 1 (run (words 1 0 2 0 2000000 500 36000000 0 ++ nines 1))
     -- C102: a gap at either end of a calm recording
-    ∷ add (blank wide) (set (set (even 6 1000) 8 lost) 70 lost) ⟶ taken (site (table wide 5 3 0 2 none 0 0 0 0 0 0))
+    ∷ add (blank wide) (set (set (even 6 1000) 8 lost) 70 lost) ⟶ taken (site (table wide 5 3 0 2 none 0 0 0 0 0))
     ∷ []
 
 -- ---- sag types
@@ -1000,59 +999,59 @@ making =
 sound : List Case
 sound =
     -- C264: each number as large as it may be beside the total: sound
-    add (table house 2 1 1 0 (put 17 1 none) 1 2 2 2 2 48000000) (even 2 1000)
-    ⟶ taken (site (table house 3 2 1 0 (put 17 1 none) 1 2 2 2 2 48000000))
-    -- C265: all interruptions stray: sound
-    ∷ add (table house 2 1 1 0 (put 17 1 none) 1 2 1 2 1 48000000) (even 2 1000)
-    ⟶ taken (site (table house 3 2 1 0 (put 17 1 none) 1 2 1 2 1 48000000))
-    -- C266: its settings bad: f 51
-    ∷ add (table (settings 8 1000 51 90 10 110 2) 2 1 1 0 (put 17 1 none) 1 2 2 2 2 48000000) (even 2 1000)
-    ⟶ refused 9 0 (site (table (settings 8 1000 51 90 10 110 2) 2 1 1 0 (put 17 1 none) 1 2 2 2 2 48000000))
-    -- C267: a healthy half-cycle too few
-    ∷ add (table house 2 0 1 0 (put 17 1 none) 1 2 2 2 2 48000000) (even 2 1000)
-    ⟶ refused 9 0 (site (table house 2 0 1 0 (put 17 1 none) 1 2 2 2 2 48000000))
-    -- C268: a disturbed half-cycle too many
-    ∷ add (table house 2 1 2 0 (put 17 1 none) 1 2 2 2 2 48000000) (even 2 1000)
-    ⟶ refused 9 0 (site (table house 2 1 2 0 (put 17 1 none) 1 2 2 2 2 48000000))
-    -- C269: an unknown half-cycle too many
-    ∷ add (table house 2 1 1 1 (put 17 1 none) 1 2 2 2 2 48000000) (even 2 1000)
-    ⟶ refused 9 0 (site (table house 2 1 1 1 (put 17 1 none) 1 2 2 2 2 48000000))
-    -- C270: a total one above its parts
-    ∷ add (table house 3 1 1 0 (put 17 1 none) 1 2 2 2 2 48000000) (even 2 1000)
-    ⟶ refused 9 0 (site (table house 3 1 1 0 (put 17 1 none) 1 2 2 2 2 48000000))
-    -- C271: a sag too many in cell 0
-    ∷ add (table house 2 1 1 0 (put 17 1 (put 0 1 none)) 1 2 2 2 2 48000000) (even 2 1000)
-    ⟶ refused 9 0 (site (table house 2 1 1 0 (put 17 1 (put 0 1 none)) 1 2 2 2 2 48000000))
-    -- C272: a sag too many in cell 39
-    ∷ add (table house 2 1 1 0 (put 39 1 (put 17 1 none)) 1 2 2 2 2 48000000) (even 2 1000)
-    ⟶ refused 9 0 (site (table house 2 1 1 0 (put 39 1 (put 17 1 none)) 1 2 2 2 2 48000000))
-    -- C273: an unplaced sag too few
-    ∷ add (table house 2 1 1 0 (put 17 1 none) 0 2 2 2 2 48000000) (even 2 1000)
-    ⟶ refused 9 0 (site (table house 2 1 1 0 (put 17 1 none) 0 2 2 2 2 48000000))
-    -- C274: sags one below cells and unplaced
-    ∷ add (table house 2 1 1 0 (put 17 1 none) 1 1 2 2 2 48000000) (even 2 1000)
-    ⟶ refused 9 0 (site (table house 2 1 1 0 (put 17 1 none) 1 1 2 2 2 48000000))
-    -- C275: sags one above the total
-    ∷ add (table house 2 1 1 0 (put 17 1 none) 2 3 2 2 2 48000000) (even 2 1000)
-    ⟶ refused 9 0 (site (table house 2 1 1 0 (put 17 1 none) 2 3 2 2 2 48000000))
-    -- C276: interruptions one above the total
-    ∷ add (table house 2 1 1 0 (put 17 1 none) 1 2 3 2 2 48000000) (even 2 1000)
-    ⟶ refused 9 0 (site (table house 2 1 1 0 (put 17 1 none) 1 2 3 2 2 48000000))
-    -- C277: swells one above the total
-    ∷ add (table house 2 1 1 0 (put 17 1 none) 1 2 2 3 2 48000000) (even 2 1000)
-    ⟶ refused 9 0 (site (table house 2 1 1 0 (put 17 1 none) 1 2 2 3 2 48000000))
-    -- C278: stray interruptions one above the interruptions
-    ∷ add (table house 2 1 1 0 (put 17 1 none) 1 2 1 2 2 48000000) (even 2 1000)
-    ⟶ refused 9 0 (site (table house 2 1 1 0 (put 17 1 none) 1 2 1 2 2 48000000))
+    add (table house 2 1 1 0 (put 17 1 none) 1 2 2 2 48000000) (even 2 1000)
+    ⟶ taken (site (table house 3 2 1 0 (put 17 1 none) 1 2 2 2 48000000))
+    -- C265: two interruptions beside one sag: sound
+    ∷ add (table house 2 1 1 0 (put 17 1 none) 0 1 2 2 48000000) (even 2 1000)
+    ⟶ taken (site (table house 3 2 1 0 (put 17 1 none) 0 1 2 2 48000000))
+    -- C266: and beside none: sound, since no condition speaks of both
+    ∷ add (table house 2 1 1 0 none 0 0 2 2 48000000) (even 2 1000)
+    ⟶ taken (site (table house 3 2 1 0 none 0 0 2 2 48000000))
+    -- C267: its settings bad: f 51
+    ∷ add (table (settings 8 1000 51 90 10 110 2) 2 1 1 0 (put 17 1 none) 1 2 2 2 48000000) (even 2 1000)
+    ⟶ refused 9 0 (site (table (settings 8 1000 51 90 10 110 2) 2 1 1 0 (put 17 1 none) 1 2 2 2 48000000))
+    -- C268: a healthy half-cycle too few
+    ∷ add (table house 2 0 1 0 (put 17 1 none) 1 2 2 2 48000000) (even 2 1000)
+    ⟶ refused 9 0 (site (table house 2 0 1 0 (put 17 1 none) 1 2 2 2 48000000))
+    -- C269: a disturbed half-cycle too many
+    ∷ add (table house 2 1 2 0 (put 17 1 none) 1 2 2 2 48000000) (even 2 1000)
+    ⟶ refused 9 0 (site (table house 2 1 2 0 (put 17 1 none) 1 2 2 2 48000000))
+    -- C270: an unknown half-cycle too many
+    ∷ add (table house 2 1 1 1 (put 17 1 none) 1 2 2 2 48000000) (even 2 1000)
+    ⟶ refused 9 0 (site (table house 2 1 1 1 (put 17 1 none) 1 2 2 2 48000000))
+    -- C271: a total one above its parts
+    ∷ add (table house 3 1 1 0 (put 17 1 none) 1 2 2 2 48000000) (even 2 1000)
+    ⟶ refused 9 0 (site (table house 3 1 1 0 (put 17 1 none) 1 2 2 2 48000000))
+    -- C272: a sag too many in cell 0
+    ∷ add (table house 2 1 1 0 (put 17 1 (put 0 1 none)) 1 2 2 2 48000000) (even 2 1000)
+    ⟶ refused 9 0 (site (table house 2 1 1 0 (put 17 1 (put 0 1 none)) 1 2 2 2 48000000))
+    -- C273: a sag too many in cell 39
+    ∷ add (table house 2 1 1 0 (put 39 1 (put 17 1 none)) 1 2 2 2 48000000) (even 2 1000)
+    ⟶ refused 9 0 (site (table house 2 1 1 0 (put 39 1 (put 17 1 none)) 1 2 2 2 48000000))
+    -- C274: an unplaced sag too few
+    ∷ add (table house 2 1 1 0 (put 17 1 none) 0 2 2 2 48000000) (even 2 1000)
+    ⟶ refused 9 0 (site (table house 2 1 1 0 (put 17 1 none) 0 2 2 2 48000000))
+    -- C275: sags one below cells and unplaced
+    ∷ add (table house 2 1 1 0 (put 17 1 none) 1 1 2 2 48000000) (even 2 1000)
+    ⟶ refused 9 0 (site (table house 2 1 1 0 (put 17 1 none) 1 1 2 2 48000000))
+    -- C276: sags one above the total
+    ∷ add (table house 2 1 1 0 (put 17 1 none) 2 3 2 2 48000000) (even 2 1000)
+    ⟶ refused 9 0 (site (table house 2 1 1 0 (put 17 1 none) 2 3 2 2 48000000))
+    -- C277: interruptions one above the total
+    ∷ add (table house 2 1 1 0 (put 17 1 none) 1 2 3 2 48000000) (even 2 1000)
+    ⟶ refused 9 0 (site (table house 2 1 1 0 (put 17 1 none) 1 2 3 2 48000000))
+    -- C278: swells one above the total
+    ∷ add (table house 2 1 1 0 (put 17 1 none) 1 2 2 3 48000000) (even 2 1000)
+    ⟶ refused 9 0 (site (table house 2 1 1 0 (put 17 1 none) 1 2 2 3 48000000))
     -- C279: shortfall one above 3 x N x R x R x total
-    ∷ add (table house 2 1 1 0 (put 17 1 none) 1 2 2 2 2 48000001) (even 2 1000)
-    ⟶ refused 9 0 (site (table house 2 1 1 0 (put 17 1 none) 1 2 2 2 2 48000001))
+    ∷ add (table house 2 1 1 0 (put 17 1 none) 1 2 2 2 48000001) (even 2 1000)
+    ⟶ refused 9 0 (site (table house 2 1 1 0 (put 17 1 none) 1 2 2 2 48000001))
     -- C280: N 10, R 1001: shortfall on its bound
-    ∷ add (table ten 2 1 1 0 (put 17 1 none) 1 2 2 2 2 60120060) (alike 10 1001 1001 1001)
-    ⟶ taken (site (table ten 3 2 1 0 (put 17 1 none) 1 2 2 2 2 60120060))
+    ∷ add (table ten 2 1 1 0 (put 17 1 none) 1 2 2 2 60120060) (alike 10 1001 1001 1001)
+    ⟶ taken (site (table ten 3 2 1 0 (put 17 1 none) 1 2 2 2 60120060))
     -- C281: one above
-    ∷ add (table ten 2 1 1 0 (put 17 1 none) 1 2 2 2 2 60120061) (alike 10 1001 1001 1001)
-    ⟶ refused 9 0 (site (table ten 2 1 1 0 (put 17 1 none) 1 2 2 2 2 60120061))
+    ∷ add (table ten 2 1 1 0 (put 17 1 none) 1 2 2 2 60120061) (alike 10 1001 1001 1001)
+    ⟶ refused 9 0 (site (table ten 2 1 1 0 (put 17 1 none) 1 2 2 2 60120061))
     -- C282: room for one half-cycle more: filled to 4,000,000
     ∷ add (healthyOnly 3999999) (even 2 1000) ⟶ taken (site (healthyOnly 4000000))
     -- C283: a total of 4,000,000 is sound, and full
@@ -1069,27 +1068,27 @@ growing : List Case
 growing =
     -- C286: each number of the table its own, and something of everything added
     add various (set (even 1 500 ++ even 2 1000 ++ even 2 0 ++ even 2 1000 ++ uneven 1 1000 1300 1000 ++ even 3 1000) 110 lost)
-    ⟶ taken (site (table house 10022 5005 3007 2010 (put 1 103 (rising 40 101)) 58 4879 612 714 19 58234567))
+    ⟶ taken (site (table house 10022 5005 3007 2010 (put 1 103 (rising 40 101)) 58 4879 612 714 58234567))
     -- C287: and a calm recording: only total and healthy grow
     ∷ add various (even 4 1000)
-    ⟶ taken (site (table house 10015 5006 3001 2008 (rising 40 101) 57 4877 611 713 19 1234567))
+    ⟶ taken (site (table house 10015 5006 3001 2008 (rising 40 101) 57 4877 611 713 1234567))
     -- C288: two sags in two cells, of different rows and columns
     ∷ add (blank house) (even 2 1000 ++ uneven 2 1000 899 1000 ++ even 1 1000 ++ uneven 3 1000 1000 100 ++ even 2 1000)
-    ⟶ taken (site (table house 9 4 5 0 (put 32 1 (put 1 1 none)) 0 2 0 0 0 25294392))
+    ⟶ taken (site (table house 9 4 5 0 (put 32 1 (put 1 1 none)) 0 2 0 0 25294392))
     -- C289: f 60, hysteresis 5: a sag with its cell, and one whose end is unseen
     ∷ add (blank wide) (even 2 1000 ++ uneven 1 300 450 600 ++ even 2 1000 ++ uneven 1 300 450 600 ++ even 1 1000)
-    ⟶ taken (site (table wide 6 2 4 0 (put 25 1 none) 1 2 0 0 0 27320000))
+    ⟶ taken (site (table wide 6 2 4 0 (put 25 1 none) 1 2 0 0 27320000))
     -- C290: N 10, R 1001
     ∷ add (blank ten) (alike 10 1001 1001 1001 ++ alike 5 300 450 600 ++ alike 10 1001 1001 1001 ++ alike 5 300 450 600
     ++ alike 5 1001 1001 1001)
-    ⟶ taken (site (table ten 6 2 4 0 (put 25 1 none) 1 2 0 0 0 47070060))
+    ⟶ taken (site (table ten 6 2 4 0 (put 25 1 none) 1 2 0 0 47070060))
     -- C291: sines
     ∷ add (blank house) (sines 1000 1000 1000 ++ sines 500 800 1100 ++ sines 1000 1000 1000)
-    ⟶ taken (site (table house 5 2 3 0 (put 17 1 none) 0 1 0 0 0 14887106))
+    ⟶ taken (site (table house 5 2 3 0 (put 17 1 none) 0 1 0 0 14887106))
     -- C292: ten half-cycles fill the table exactly
     ∷ add (healthyOnly 3999990) (set (even 1 500 ++ even 2 1000 ++ even 2 0 ++ even 2 1000 ++ uneven 1 1000 1300 1000
     ++ even 3 1000) 110 lost)
-    ⟶ taken (site (table house 4000000 3999992 6 2 (put 1 1 none) 1 2 1 1 0 57000000))
+    ⟶ taken (site (table house 4000000 3999992 6 2 (put 1 1 none) 1 2 1 1 57000000))
     -- C293: there is room for nine, not for ten
     ∷ add (healthyOnly 3999991) (set (even 1 500 ++ even 2 1000 ++ even 2 0 ++ even 2 1000 ++ uneven 1 1000 1300 1000
     ++ even 3 1000) 110 lost)
@@ -1138,14 +1137,14 @@ lengths =
     ∷ add various (alike 7 1000 1000 1000) ⟶ refused 3 0 (site various)
     -- C312: added, 8: one half-cycle
     ∷ add various (even 2 1000)
-    ⟶ taken (site (table house 10013 5004 3001 2008 (rising 40 101) 57 4877 611 713 19 1234567))
+    ⟶ taken (site (table house 10013 5004 3001 2008 (rising 40 101) 57 4877 611 713 1234567))
     -- C313: added, 9: 4
     ∷ add various (alike 9 1000 1000 1000) ⟶ refused 4 0 (site various)
     -- C314: added, 11: 4
     ∷ add various (alike 11 1000 1000 1000) ⟶ refused 4 0 (site various)
     -- C315: added, 12: two half-cycles
     ∷ add various (even 3 1000)
-    ⟶ taken (site (table house 10014 5005 3001 2008 (rising 40 101) 57 4877 611 713 19 1234567))
+    ⟶ taken (site (table house 10014 5005 3001 2008 (rising 40 101) 57 4877 611 713 1234567))
     -- C316: N 10, 9 samples per channel: 3
     ∷ list ten 9 (alike 9 300 1001 1001) ⟶ refused 3 0 (run (nines 9))
     -- C317: 10: one half-cycle
@@ -1184,7 +1183,7 @@ samples =
     ∷ add various (set (set (even 2 1000) 13 (minus 100001)) 14 (pos 100001)) ⟶ refused 6 13 (site various)
     -- C331: added, a single sample of 100,000
     ∷ add various (set (even 2 1000) 0 (pos 100000))
-    ⟶ taken (site (table house 10013 5003 3002 2008 (rising 40 101) 57 4877 611 714 19 1234567))
+    ⟶ taken (site (table house 10013 5003 3002 2008 (rising 40 101) 57 4877 611 714 1234567))
     ∷ []
 
 -- ---- refusal 7, and how far the lent run is written
@@ -1231,11 +1230,11 @@ order =
     -- C346: hysteresis 6 alone: 1, at 7
     ∷ list (settings 8 1000 50 90 10 110 6) 9 (even 2 1000 ++ even 2 500 ++ even 2 1000) ⟶ refused 1 7 (run (nines 9))
     -- C347: an unsound table, full, length 5, a sample out of range: 9
-    ∷ add (table house 4000000 4000000 0 1 none 0 0 0 0 0 0) (pos 100001 ∷ pos 1000 ∷ pos 1000 ∷ pos 1000 ∷ pos 1000 ∷ [])
-    ⟶ refused 9 0 (site (table house 4000000 4000000 0 1 none 0 0 0 0 0 0))
+    ∷ add (table house 4000000 4000000 0 1 none 0 0 0 0 0) (pos 100001 ∷ pos 1000 ∷ pos 1000 ∷ pos 1000 ∷ pos 1000 ∷ [])
+    ⟶ refused 9 0 (site (table house 4000000 4000000 0 1 none 0 0 0 0 0))
     -- C348: an unsound table: 9
-    ∷ add (table house 10012 5003 3001 2009 (rising 40 101) 57 4877 611 713 19 1234567) (even 2 1000 ++ even 2 500 ++ even 2 1000)
-    ⟶ refused 9 0 (site (table house 10012 5003 3001 2009 (rising 40 101) 57 4877 611 713 19 1234567))
+    ∷ add (table house 10012 5003 3001 2009 (rising 40 101) 57 4877 611 713 1234567) (even 2 1000 ++ even 2 500 ++ even 2 1000)
+    ⟶ refused 9 0 (site (table house 10012 5003 3001 2009 (rising 40 101) 57 4877 611 713 1234567))
     -- C349: a full table, length 5, a sample out of range: 2
     ∷ add (healthyOnly 4000000) (pos 100001 ∷ pos 1000 ∷ pos 1000 ∷ pos 1000 ∷ pos 1000 ∷ [])
     ⟶ refused 2 0 (site (healthyOnly 4000000))
@@ -1258,5 +1257,5 @@ cases =
     ++ making ++ sound ++ growing ++ lengths ++ samples ++ rooms ++ order
 
 case-answers : map asked-again cases ≡ cases
-unfolding answerTo asked-again cases sags interruptions swells overlaps marks gaps types durations depths energies not-events making sound growing lengths samples rooms order firstBad badSetting settingsGood halvesOf anyMissing squares sumsAt halfAt full carries inRun inEvent starts endOf seenOf extremeOf earliest climb retainedOf shortsOf sixSums typeOf eventFrom eventAt eventsOf inBounds sagGood isEvent reasonOf scoring rowOf columnOf cellOf isHealthy isDisturbed isUnknown isPlaced isUnplaced sagCell isContained isStray sagShortfalls grown isUnsound recordingCheck settingsCheck roomCheck listCheck listed written freshened soundCheck fullCheck addCheck added div ofInt ofBits
+unfolding answerTo asked-again cases sags interruptions swells overlaps marks gaps types durations depths energies not-events making sound growing lengths samples rooms order firstBad badSetting settingsGood halvesOf anyMissing squares sumsAt halfAt full carries inRun inEvent starts endOf seenOf extremeOf earliest climb retainedOf shortsOf sixSums typeOf eventFrom eventAt eventsOf inBounds sagGood isEvent reasonOf scoring rowOf columnOf cellOf isHealthy isDisturbed isUnknown isPlaced isUnplaced sagCell sagShortfalls grown isUnsound recordingCheck settingsCheck roomCheck listCheck listed written freshened soundCheck fullCheck addCheck added div ofInt ofBits
 case-answers = refl

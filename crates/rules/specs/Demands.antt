@@ -1,19 +1,20 @@
 -- What the theorems of the three demands, and the laws that docs/STATEMENTS.md names beside them, speak of besides the rules: what an
 -- accepting check says, in an event told by the half-cycle before, a list in order, what has a score, the largest whole number,
--- places among borders, recordings offered to a table one after the other, and a sound table.
+-- a sag that contains an interruption, places among borders, recordings offered to a table one after the other, and a sound table.
 use Prim.Native.Nat.{ℕ, suc, _+_, _-_, _*_, _/_, _%_, _≤_, _<_}
 use mathlib.Core.Path.{_≡_}
 use mathlib.Core.Bool.{Bool, true, not, _&&_, _||_, cond}
-use mathlib.Core.List.{List, [], _∷_}
+use mathlib.Core.List.{List, [], _∷_, List·Memᴰ}
 use lib.Dec.{leb, ltb, eqb}
 use lib.IntN.{ℤ, pos}
 use lib.ListN.{length, getD}
 use Rattle.rules.specs.Bounded.{all, count}
 use Rattle.rules.specs.Recorder.{inRange, settingsGood}
 use Rattle.rules.specs.Halves.{samplesOf, halfAt, halvesOf, known, full}
-use Rattle.rules.specs.Events.{begins, ends, starts}
+use Rattle.rules.specs.Events.{begins, ends, starts, endOf}
+use Rattle.rules.specs.EventList.{kindNumber, eventsOf}
 use Rattle.rules.specs.Scores.{isSag, isEvent}
-use Rattle.rules.specs.Site.{isHealthy, isDisturbed, isUnknown, isPlaced, isUnplaced, sagCell, isStray, sagShort, cells, total, mostHalves}
+use Rattle.rules.specs.Site.{isHealthy, isDisturbed, isUnknown, isPlaced, isUnplaced, sagCell, sagShort, cells, total, mostHalves}
 use Rattle.rules.specs.Refusals.{recordingCheck, byCheck, andThen, addCheck, added}
 use Rattle.rules.specs.declared.Settings.{Settings}
 use Rattle.rules.specs.declared.Half.{Half}
@@ -84,6 +85,28 @@ pub record IsRetained (m S r : ℕ) : Type 0 where
   pub fits : r * r * m ≤ 1000000 * S
   pub largest : (w : ℕ) → w * w * m ≤ 1000000 * S → w ≤ r
 
+-- ---- an interruption lies in one sag
+
+-- exactly one: this one has P, and whatever has P is this one
+pub record ExactlyOne {A : Type 0} (P : A → Type 0) : Type 0 where
+  pub one : A
+  pub has : P one
+  pub only : (x : A) → P x → x ≡ one
+
+-- the event of the kind that starts at k contains the half-cycles from a up to and without b: it starts at or before a, and ends
+-- at or after b
+pub record Contains (s : Settings) (h : ℕ → Half) (n : ℕ) (kind : Kind) (a b k : ℕ) : Type 0 where
+  pub one-starts : starts s h kind k ≡ true
+  pub by-then : k ≤ a
+  pub to-the-end : b ≤ endOf s h n kind k
+
+-- g is a sag of the recording's list, starts at or before event e, and ends at or after it
+pub record SagOver (s : Settings) (xs : List ℤ) (e g : Event) : Type 0 where
+  pub listed : List·Memᴰ g (eventsOf s xs)
+  pub sag : g .kind ≡ kindNumber Sag
+  pub by-then : g .start ≤ e .start
+  pub to-the-end : e .end ≤ g .end
+
 -- ---- places among borders
 
 -- each border is below the next
@@ -133,7 +156,7 @@ sumOver g (xs ∷ rs) = g xs + sumOver g rs
 abbrev pub placedIn : Settings → List ℤ → ℕ → ℕ
 placedIn s xs i = let h = halfAt s xs in let n = halvesOf s xs in count (λ k. isPlaced s h n k && eqb (sagCell s h n k) i) n
 
--- what a table that is not unsound is, part by part: each of the rules' seven conditions turned round, the
+-- what a table that is not unsound is, part by part: each of the rules' six conditions turned round, the
 -- one on event kinds as three
 pub record Sound (t : Table) : Type 0 where
   pub good-settings : settingsGood (t .settings) ≡ true
@@ -143,7 +166,6 @@ pub record Sound (t : Table) : Type 0 where
   pub sags-high : t .sags ≤ t .total
   pub interruptions-high : t .interruptions ≤ t .total
   pub swells-high : t .swells ≤ t .total
-  pub stray-high : t .stray ≤ t .interruptions
   pub shortfall-high : t .shortfall ≤ 3 * full (t .settings) * t .total
 
 -- a table with settings s holds what the recordings add up to: each count its own, each straight from the samples
@@ -159,5 +181,4 @@ pub record SumsUp (s : Settings) (t : Table) (rs : List (List ℤ)) : Type 0 whe
   pub sags : t .sags ≡ sumOver (λ xs. count (starts s (halfAt s xs) Sag) (halvesOf s xs)) rs
   pub interruptions : t .interruptions ≡ sumOver (λ xs. count (starts s (halfAt s xs) Interruption) (halvesOf s xs)) rs
   pub swells : t .swells ≡ sumOver (λ xs. count (starts s (halfAt s xs) Swell) (halvesOf s xs)) rs
-  pub stray : t .stray ≡ sumOver (λ xs. count (isStray s (halfAt s xs) (halvesOf s xs)) (halvesOf s xs)) rs
   pub shortfall : t .shortfall ≡ sumOver (sagShort s) rs

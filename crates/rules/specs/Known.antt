@@ -10,7 +10,7 @@ use Rattle.rules.specs.Halves.{halvesOf, anyMissing, squares, sumsAt, ha
 use Rattle.rules.specs.Events.{carries, inRun, inEvent, starts, endOf, seenOf, extremeOf, earliest, climb, retainedOf, shortsOf, sixSums, typeOf}
 use Rattle.rules.specs.EventList.{eventFrom, eventAt, eventsOf}
 use Rattle.rules.specs.Scores.{inBounds, sagGood, isEvent, reasonOf, scoring, millisOf}
-use Rattle.rules.specs.Site.{rowOf, columnOf, cellOf, isHealthy, isDisturbed, isUnknown, isPlaced, isUnplaced, sagCell, isContained, isStray, sagShortfalls, sagShort, grown, isUnsound}
+use Rattle.rules.specs.Site.{rowOf, columnOf, cellOf, isHealthy, isDisturbed, isUnknown, isPlaced, isUnplaced, sagCell, sagShortfalls, sagShort, grown, isUnsound}
 use Rattle.rules.specs.Refusals.{recordingCheck, settingsCheck, roomCheck, listCheck, listed, written, freshened, soundCheck, fullCheck, addCheck, added}
 use Rattle.rules.specs.declared.Settings.{Settings}
 use Rattle.rules.specs.declared.Event.{Event}
@@ -90,7 +90,6 @@ after total healthy disturbed unknown cells unplaced sags interruptions swells s
             sags = sags;
             interruptions = interruptions;
             swells = swells;
-            stray = 0;
             shortfall = shortfall;
           };
     }
@@ -253,5 +252,5 @@ cases =
     ∷ []
 
 known-answers : map (λ (c : Case). answersTo (c .given)) cases ≡ cases
-unfolding answersTo cases firstBad badSetting settingsGood halvesOf anyMissing squares sumsAt halfAt full carries inRun inEvent starts endOf seenOf extremeOf earliest climb retainedOf shortsOf sixSums typeOf eventFrom eventAt eventsOf inBounds sagGood isEvent reasonOf scoring rowOf columnOf cellOf isHealthy isDisturbed isUnknown isPlaced isUnplaced sagCell isContained isStray sagShortfalls sagShort grown isUnsound recordingCheck settingsCheck roomCheck listCheck listed written freshened soundCheck fullCheck addCheck added div ofInt ofBits
+unfolding answersTo cases firstBad badSetting settingsGood halvesOf anyMissing squares sumsAt halfAt full carries inRun inEvent starts endOf seenOf extremeOf earliest climb retainedOf shortsOf sixSums typeOf eventFrom eventAt eventsOf inBounds sagGood isEvent reasonOf scoring rowOf columnOf cellOf isHealthy isDisturbed isUnknown isPlaced isUnplaced sagCell sagShortfalls sagShort grown isUnsound recordingCheck settingsCheck roomCheck listCheck listed written freshened soundCheck fullCheck addCheck added div ofInt ofBits
 known-answers = refl

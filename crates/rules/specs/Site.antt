@@ -5,7 +5,7 @@ use mathlib.Core.List.{List, [], _∷_}
 use lib.ListN.{replicate}
 use lib.IntN.{ℤ}
 use lib.Dec.{leb, ltb, eqb}
-use Rattle.rules.specs.Bounded.{any, count, sum}
+use Rattle.rules.specs.Bounded.{count, sum}
 use Rattle.rules.specs.Recorder.{settingsGood}
 use Rattle.rules.specs.Halves.{halfAt, halvesOf, known, full, atMost}
 use Rattle.rules.specs.Events.{inEvent, starts, endOf, startSeen, endSeen, extremeOf, shorts, three}
@@ -70,7 +70,7 @@ isDisturbed s h k = known (h k) && inAny s h k
 unfoldable pub isUnknown : Settings → (ℕ → Half) → ℕ → Bool
 isUnknown s h k = not (known (h k))
 
--- ---- sags, placed and unplaced, and stray interruptions: each a test of where it starts
+-- ---- sags, placed and unplaced: each a test of where it starts
 
 -- a sag with both ends seen goes in one cell, any other sag is unplaced
 unfoldable pub isPlaced : Settings → (ℕ → Half) → ℕ → ℕ → Bool
@@ -83,13 +83,6 @@ isUnplaced s h n k = starts s h Sag k && not (startSeen h k && endSeen h (endOf 
 unfoldable pub sagCell : Settings → (ℕ → Half) → ℕ → ℕ → ℕ
 sagCell s h n k =
     let end = endOf s h n Sag k in cellAt s (extremeOf h Sag k end) (end - k)
-
--- an interruption from start up to end is contained in one sag
-unfoldable pub isContained : Settings → (ℕ → Half) → ℕ → ℕ → ℕ → Bool
-isContained s h n start end = any (λ k. starts s h Sag k && (leb k start && leb end (endOf s h n Sag k))) n
-
-unfoldable pub isStray : Settings → (ℕ → Half) → ℕ → ℕ → Bool
-isStray s h n k = starts s h Interruption k && not (isContained s h n k (endOf s h n Interruption k))
 
 -- ---- shortfall
 
@@ -126,7 +119,6 @@ grown t xs =
       sags = t .sags + count (starts s h Sag) n;
       interruptions = t .interruptions + count (starts s h Interruption) n;
       swells = t .swells + count (starts s h Swell) n;
-      stray = t .stray + count (isStray s h n) n;
       shortfall = t .shortfall + sagShortfalls s xs;
     }
 
@@ -145,7 +137,6 @@ empty s =
       sags = 0;
       interruptions = 0;
       swells = 0;
-      stray = 0;
       shortfall = 0;
     }
 
@@ -161,12 +152,11 @@ abbrev pub mostHalves : ℕ
 mostHalves = 4000000
 
 -- settings bad; total above 4,000,000; the three half-cycle counts don't sum to it; cells and unplaced don't sum to sags; any
--- event kind above total; stray above interruptions; shortfall above 3 x N x R x R x total
+-- event kind above total; shortfall above 3 x N x R x R x total
 unfoldable pub isUnsound : Table → Bool
 isUnsound t =
     not (settingsGood (t .settings)) || ltb mostHalves (t .total)
     || not (eqb (t .healthy + t .disturbed + t .unknown) (t .total))
     || not (eqb (total (t .cells) + t .unplaced) (t .sags))
     || (ltb (t .total) (t .sags) || ltb (t .total) (t .interruptions) || ltb (t .total) (t .swells))
-    || ltb (t .interruptions) (t .stray)
     || ltb (3 * full (t .settings) * t .total) (t .shortfall)
