@@ -1,4 +1,4 @@
-// The boundary for C and Rust. Settings are seven numbers, an event is eight and a site table 57, in the order of the rules.
+// The boundary for C and Rust. Settings are seven numbers, an event is eight and a site table 56, in the order of the rules.
 use rules::Listed;
 use rules::Scoring;
 use words::event;
@@ -150,7 +150,7 @@ pub extern "C" fn burr_fresh(
     interruption: u64,
     swell: u64,
     hysteresis: u64,
-    table: &mut [u64; 57],
+    table: &mut [u64; 56],
     place: &mut u64,
 ) -> u64
     ensures { λ x. ⌜ x ≡ numberOfTaken (freshened (settingsFrom n r f sag interruption swell hysteresis) .answer) ⌝ }
@@ -168,7 +168,7 @@ pub extern "C" fn burr_fresh(
 
 // The table grown by a recording, and 0; or the refusal's number and its place, and the table as it was.
 #[no_mangle]
-pub extern "C" fn burr_add(table: &mut [u64; 57], samples: &[i32], place: &mut u64) -> u64
+pub extern "C" fn burr_add(table: &mut [u64; 56], samples: &[i32], place: &mut u64) -> u64
     ensures { λ x. ⌜ x ≡ numberOfTaken (added (tableFrom (now (table .entry))) (now (samples .entry)) .answer) ⌝ }
     ensures { λ x. ⌜ now (place .exit) ≡ placeOfTaken (added (tableFrom (now (table .entry))) (now (samples .entry)) .answer) ⌝ }
     ensures { λ x. ⌜ now (table .exit) ≡ tableWords (added (tableFrom (now (table .entry))) (now (samples .entry)) .table) ⌝ }

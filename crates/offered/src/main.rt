@@ -55,8 +55,6 @@ fn write_table(name: &[u8], t: Table) {
     print::number(t.sags);
     print::number(t.interruptions);
     print::number(t.swells);
-    print::text(b" stray");
-    print::number(t.stray);
     print::text(b" shortfall");
     print::number(t.shortfall);
     print::text(b"\n");

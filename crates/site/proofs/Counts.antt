@@ -81,7 +81,7 @@ module _ (t : Table) where
   total-bad l = unsound-when (λ s. omega (arith, s .total-high))
 
   abbrev pub counts-test : Bool
-  counts-test = ltb (t .total) (t .sags) || ltb (t .total) (t .interruptions) || ltb (t .total) (t .swells) || ltb (t .interruptions) (t .stray)
+  counts-test = ltb (t .total) (t .sags) || ltb (t .total) (t .interruptions) || ltb (t .total) (t .swells)
 
   pub counts-bad : counts-test ≡ true → true ≡ isUnsound t
   counts-bad e =
@@ -91,20 +91,17 @@ module _ (t : Table) where
         le-ltb (t .total) (t .sags) (s .sags-high),
         le-ltb (t .total) (t .interruptions) (s .interruptions-high),
         le-ltb (t .total) (t .swells) (s .swells-high),
-        le-ltb (t .interruptions) (t .stray) (s .stray-high),
       )))
 
   pub record CountsFine : Type 0 where
     pub sags-high : t .sags ≤ t .total
     pub interruptions-high : t .interruptions ≤ t .total
     pub swells-high : t .swells ≤ t .total
-    pub stray-high : t .stray ≤ t .interruptions
 
   pub counts-fine : counts-test ≡ false → CountsFine
   counts-fine e =
-      let x = neither (ltb (t .total) (t .sags) || ltb (t .total) (t .interruptions) || ltb (t .total) (t .swells)) (ltb (t .interruptions) (t .stray)) e in
-      let y = none-above (t .total) (t .sags) (t .interruptions) (t .swells) (x .0) in
-      record { sags-high = y .0; interruptions-high = y .1; swells-high = y .2; stray-high = ltb-false (t .interruptions) (t .stray) (x .1) }
+      let y = none-above (t .total) (t .sags) (t .interruptions) (t .swells) e in
+      record { sags-high = y .0; interruptions-high = y .1; swells-high = y .2 }
 
   pub classes-bad : eqb (t .healthy + t .disturbed + t .unknown) (t .total) ≡ false → true ≡ isUnsound t
   classes-bad e = unsound-when (λ s. eqb-false (t .healthy + t .disturbed + t .unknown) (t .total) e (s .classes))
@@ -132,7 +129,6 @@ module _ (t : Table) where
         sags-high = c .sags-high;
         interruptions-high = c .interruptions-high;
         swells-high = c .swells-high;
-        stray-high = c .stray-high;
         shortfall-high = ltb-false (3 * full (t .settings) * t .total) (t .shortfall) x;
       })))
       (cases (ltb (3 * full (t .settings) * t .total) (t .shortfall)))
@@ -242,6 +238,5 @@ module _ (t : Table) (xs : List ℤ) (forty : length (t .cells) ≡ 40) where
         sags-few = omega (arith, s .sags-high, s .total-high);
         interruptions-few = omega (arith, s .interruptions-high, s .total-high);
         swells-few = omega (arith, s .swells-high, s .total-high);
-        stray-few = omega (arith, s .stray-high, s .interruptions-high, s .total-high);
         shortfall-low = omega (arith, s .shortfall-high, high);
       }

@@ -17,7 +17,6 @@ merged t u =
       sags = t .sags + u .sags;
       interruptions = t .interruptions + u .interruptions;
       swells = t .swells + u .swells;
-      stray = t .stray + u .stray;
       shortfall = t .shortfall + u .shortfall;
     }
 
@@ -32,5 +31,4 @@ pub record Mergeable (t u : Table) : Type 0 where
   pub sags-few : t .sags + u .sags ≤ 4000000
   pub interruptions-few : t .interruptions + u .interruptions ≤ 4000000
   pub swells-few : t .swells + u .swells ≤ 4000000
-  pub stray-few : t .stray + u .stray ≤ 4000000
   pub shortfall-low : t .shortfall + u .shortfall ≤ 15360000000000000000

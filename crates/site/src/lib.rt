@@ -71,11 +71,7 @@ fn is_unsound(t: Table) -> bool
     if 4000000 < t.total {
         return true;
     }
-    if (t.total < t.sags)
-        | (t.total < t.interruptions)
-        | (t.total < t.swells)
-        | (t.interruptions < t.stray)
-    {
+    if (t.total < t.sags) | (t.total < t.interruptions) | (t.total < t.swells) {
         return true;
     }
     if !adds_up(t.total, t.healthy, t.disturbed, t.unknown) {
@@ -116,7 +112,6 @@ fn merge(t: Table, u: Table) -> Table
         sags: t.sags + u.sags,
         interruptions: t.interruptions + u.interruptions,
         swells: t.swells + u.swells,
-        stray: t.stray + u.stray,
         shortfall: t.shortfall + u.shortfall,
     }
 }
@@ -136,7 +131,6 @@ fn empty_table(s: Settings) -> Table
         sags: 0,
         interruptions: 0,
         swells: 0,
-        stray: 0,
         shortfall: 0,
     }
 }

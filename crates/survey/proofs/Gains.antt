@@ -15,7 +15,7 @@ use Rattle.rules.specs.Bounded.{before, bit, count, sum}
 use Rattle.rules.specs.Halves.{known, halfAt, halvesOf, full}
 use Rattle.rules.specs.Events.{inEvent, starts}
 use Rattle.rules.specs.EventList.{eventFrom}
-use Rattle.rules.specs.Site.{cells, cellAt, isPlaced, isUnplaced, sagCell, isStray, sagShortfalls, sagShort, cellsFrom}
+use Rattle.rules.specs.Site.{cells, cellAt, isPlaced, isUnplaced, sagCell, sagShortfalls, sagShort, cellsFrom}
 use Rattle.rules.specs.Demands.{Good, AcceptedRecording}
 use Rattle.rules.proofs.Booleans.{cases, bit-le}
 use Rattle.rules.proofs.Bounded.{sum-same}
@@ -29,10 +29,10 @@ use Rattle.rules.specs.declared.Settings.{Settings}
 use Rattle.rules.specs.declared.Half.{Half}
 use Rattle.rules.specs.declared.Half.the-variants.{Unknown}
 use Rattle.rules.specs.declared.Kind.{Kind}
-use Rattle.rules.specs.declared.Kind.the-variants.{Sag, Interruption}
+use Rattle.rules.specs.declared.Kind.the-variants.{Sag}
 use Rattle.kinds.specs.declared.Open.{Open}
 use Rattle.kinds.specs.Machine.{opens}
-use Rattle.survey.specs.Pass.{cellsBy, landed, seenBoth, shortfallFrom, strayFrom, landedAt, cellsAt}
+use Rattle.survey.specs.Pass.{cellsBy, landed, seenBoth, shortfallFrom, landedAt, cellsAt}
 use Rattle.survey.proofs.Surveys.{bit-and, lands, landing, lands-at, seen-is, landed-starts}
 
 -- ---- cells
@@ -138,10 +138,6 @@ module _ (s : Settings) (h : ℕ → Half) (n : ℕ) (past : (k : ℕ) → n ≤
   unfolding landedAt
   unplaced-few k = landed-le Sag (λ a. bit (not (seenBoth s h n a))) (λ a. bit-le (not (seenBoth s h n a))) k
 
-  pub stray-few : (k : ℕ) → landedAt s h n k .stray ≤ k
-  unfolding landedAt
-  stray-few k = landed-le Interruption (λ a. bit (strayFrom s h n a)) (λ a. bit-le (strayFrom s h n a)) k
-
   pub cells-few : (k i : ℕ) → getD (cellsAt s h n k) i 0 ≤ k
   unfolding cellsAt
   cells-few k i =
@@ -186,12 +182,6 @@ module _ (s : Settings) (xs : List ℤ) where
   unplaced-all =
       landed-all s h n (half-past s xs) Sag (λ a. bit (not (seenBoth s h n a)))
       ∙ sym (count-sum (isUnplaced s h n) n ∙ sum-same _ _ n (λ a l. bit-and (starts s h Sag a) (not (seenBoth s h n a))))
-
-  pub stray-all : landedAt s h n (suc n) .stray ≡ count (isStray s h n) n
-  unfolding landedAt isStray
-  stray-all =
-      landed-all s h n (half-past s xs) Interruption (λ a. bit (strayFrom s h n a))
-      ∙ sym (count-sum (isStray s h n) n ∙ sum-same _ _ n (λ a l. bit-and (starts s h Interruption a) (strayFrom s h n a)))
 
   shortfall-sum : sum (λ a. cond (starts s h Sag a) (shortfallFrom s h n a) 0) n ≡ sagShortfalls s xs
   unfolding sagShortfalls eventFrom

@@ -31,11 +31,11 @@ use Rattle.survey.specs.declared.Starts.{Starts}
 use Rattle.survey.specs.declared.Landed.{Landed}
 use Rattle.survey.specs.declared.Survey.{Survey}
 use Rattle.kinds.specs.Machine.{levelOf, opens, Going, Light}
-use Rattle.survey.specs.Pass.{trackedBy, classedBy, startedBy, landedBy, cellsBy, Landable, Surveying, trackAt, coveredAt, classesAt, startsAt, landed, landedAt, cellsAt, surveyAt, resting, startSurvey}
+use Rattle.survey.specs.Pass.{trackedBy, classedBy, startedBy, landedBy, cellsBy, Landable, Surveying, trackAt, classesAt, startsAt, landed, landedAt, cellsAt, surveyAt, resting, startSurvey}
 use Rattle.kinds.proofs.Machine.{level-known, inside-is, opens-closed}
 use Rattle.kinds.proofs.Limits.{opens-light, level-light, extreme-low}
 use Rattle.survey.proofs.Surveys.{track-next, classes-next, starts-next, lands, landing, landed-at-next}
-use Rattle.survey.proofs.Gains.{cells-next, unplaced-few, stray-few, cells-few, shortfall-low, unplaced-all, stray-all, shortfall-all, cells-all}
+use Rattle.survey.proofs.Gains.{cells-next, unplaced-few, cells-few, shortfall-low, unplaced-all, shortfall-all, cells-all}
 
 module _ (s : Settings) (xs : List ℤ) (good-settings : settingsGood s ≡ true) (accepted : recordingCheck s xs ≡ Accepted) where
   abbrev h : ℕ → Half
@@ -91,7 +91,6 @@ module _ (s : Settings) (xs : List ℤ) (good-settings : settingsGood s ≡ true
             };
         light = follow-ready k l .0;
         unplaced-few = omega (arith, ok .few, unplaced-few s h n (half-past s xs) k);
-        stray-few = omega (arith, ok .few, stray-few s h n (half-past s xs) k);
         shortfall-low = shortfall-low s xs g ok k l;
       }
 
@@ -124,7 +123,7 @@ module _ (s : Settings) (xs : List ℤ) (good-settings : settingsGood s ≡ true
   -- ---- the end
 
   pub at-end : trackAt s h (suc n) ≡ resting
-  unfolding trackAt coveredAt
+  unfolding trackAt
   at-end =
       rw (
         half-past s xs n (omega arith),
@@ -134,7 +133,7 @@ module _ (s : Settings) (xs : List ℤ) (good-settings : settingsGood s ≡ true
       )
 
   pub at-start : startSurvey ≡ surveyAt s h n 0
-  unfolding surveyAt trackAt classesAt startsAt landedAt opens coveredAt landed
+  unfolding surveyAt trackAt classesAt startsAt landedAt opens landed
   at-start = refl
 
   pub cells-start : replicate cells 0 ≡ cellsAt s h n 0
@@ -154,12 +153,11 @@ module _ (s : Settings) (xs : List ℤ) (good-settings : settingsGood s ≡ true
         sags = b .sags;
         interruptions = b .interruptions;
         swells = b .swells;
-        stray = d .stray;
         shortfall = d .shortfall;
       }) (grown (empty s) xs)
   unfolding grown classesAt startsAt
   table-is c b d cs m e f i j q =
-      rw (e, f, i, j, q, unplaced-all s xs, stray-all s xs, shortfall-all s xs, cells-all s xs) (simp zero-add)
+      rw (e, f, i, j, q, unplaced-all s xs, shortfall-all s xs, cells-all s xs) (simp zero-add)
 
 -- ---- a turn
 
@@ -244,7 +242,6 @@ module _ (s : Settings) (xs : List ℤ) (good-settings : settingsGood s ≡ true
         sags = p .starts .sags;
         interruptions = p .starts .interruptions;
         swells = p .starts .swells;
-        stray = d .stray;
         shortfall = d .shortfall;
       }) (grown (empty s) xs)
   table-made d cs′ e f =

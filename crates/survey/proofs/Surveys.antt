@@ -12,8 +12,6 @@ use Rattle.rules.specs.Halves.{known}
 use Rattle.rules.specs.Events.{inEvent, starts, endOf, three}
 use Rattle.rules.specs.Site.{inAny, isHealthy, isDisturbed, isUnknown}
 use Rattle.rules.proofs.Booleans.{cases, both}
-use Rattle.rules.proofs.Bounded.{all-true}
-use Rattle.rules.proofs.Stray.{contained-each}
 use Rattle.rules.specs.declared.Settings.{Settings}
 use Rattle.rules.specs.declared.Half.{Half}
 use Rattle.rules.specs.declared.Half.the-variants.{Unknown}
@@ -23,13 +21,13 @@ use Rattle.kinds.specs.declared.Open.{Open}
 use Rattle.survey.specs.declared.Track.{Track}
 use Rattle.survey.specs.declared.Landed.{Landed}
 use Rattle.kinds.specs.Machine.{thresholdsOf, levelOf, opens, Going}
-use Rattle.survey.specs.Pass.{trackedBy, classedBy, startedBy, landedBy, landed, coveredAt, trackAt, classesAt, startsAt, seenBoth, shortfallFrom, strayFrom, landedAt}
+use Rattle.survey.specs.Pass.{trackedBy, classedBy, startedBy, landedBy, landed, trackAt, classesAt, startsAt, seenBoth, shortfallFrom, landedAt}
 use Rattle.kinds.proofs.Machine.{goes-here, level-known, inside-is, opens-lasts, opens-launches}
 use Rattle.kinds.proofs.Going.{open-is-going, ends-here}
 
-same-track : {a b c d e f i j : Bool} {o p : Open} → a ≡ b → o ≡ p → c ≡ d → e ≡ f → i ≡ j
-    → _≡_ {A = Track} (record { known = a; sag = o; interruption = c; covered = e; swell = i }) (record { known = b; sag = p; interruption = d; covered = f; swell = j })
-same-track x y z u v = rw (x, y, z, u, v)
+same-track : {a b c d i j : Bool} {o p : Open} → a ≡ b → o ≡ p → c ≡ d → i ≡ j
+    → _≡_ {A = Track} (record { known = a; sag = o; interruption = c; swell = i }) (record { known = b; sag = p; interruption = d; swell = j })
+same-track x y z u = rw (x, y, z, u)
 
 pub bit-and : (b q : Bool) → bit (b && q) ≡ cond b (bit q) 0
 bit-and true q = refl
@@ -39,20 +37,17 @@ where-true : (b : Bool) (x y : ℕ) → (b ≡ true → x ≡ y) → cond b x 0 
 where-true true x y f = f refl
 where-true false x y f = refl
 
-same-landed : {a b c d e f : ℕ} → a ≡ b → c ≡ d → e ≡ f
-    → _≡_ {A = Landed} (record { unplaced = a; stray = c; shortfall = e }) (record { unplaced = b; stray = d; shortfall = f })
-same-landed x y z = rw (x, y, z)
+same-landed : {a b e f : ℕ} → a ≡ b → e ≡ f
+    → _≡_ {A = Landed} (record { unplaced = a; shortfall = e }) (record { unplaced = b; shortfall = f })
+same-landed x y = rw (x, y)
 
 module _ (s : Settings) (h : ℕ → Half) where
   -- ---- what goes on
 
   pub track-next : (k : ℕ) → trackedBy (thresholdsOf s) k (trackAt s h k) (levelOf s (h k)) ≡ trackAt s h (suc k)
-  unfolding trackedBy trackAt coveredAt opens
+  unfolding trackedBy trackAt opens
   track-next k =
-      same-track (level-known s (h k)) refl (goes-here s h Interruption k) (covers (coveredAt s h k) (goes-here s h Interruption k) (inside-is s h Sag (suc k))) (goes-here s h Swell k)
-    where
-      covers : (c : Bool) {i j x y : Bool} → i ≡ j → x ≡ y → not i || (c && x) ≡ not j || (c && y)
-      covers c e f = rw (e, f)
+      same-track (level-known s (h k)) refl (goes-here s h Interruption k) (goes-here s h Swell k)
 
   -- ---- classes and starts
 
@@ -103,33 +98,6 @@ module _ (s : Settings) (h : ℕ → Half) where
   landed-starts kind g zero = refl
   landed-starts kind g (suc k) = landed-next kind g k (landed-starts kind g k)
 
-  -- ---- an interruption's cover
-
-  covered-rest : (k : ℕ) → before (inEvent s h Interruption) k ≡ false → coveredAt s h k ≡ true
-  unfolding coveredAt
-  covered-rest zero e = refl
-  covered-rest (suc k) e = rw e
-
-  covered-is : (k : ℕ) → before (inEvent s h Interruption) k ≡ true
-      → coveredAt s h k ≡ all (λ m. ltb m (opens s h Interruption k .start) || inEvent s h Sag m) k
-  unfolding coveredAt
-  covered-is zero e = absurd (false≢true e)
-  covered-is (suc k) i =
-      ⊎-elim
-      (λ w.
-      let o : opens s h Interruption k .inside ≡ true = inside-is s h Interruption k ∙ w in
-      rw (opens-lasts s h Interruption k i o, i, covered-is k w, le-ltb k (opens s h Interruption k .start) (omega (arith, open-is-going s h Interruption k o .started))))
-      (λ w.
-      let o : opens s h Interruption k .inside ≡ false = inside-is s h Interruption k ∙ w in
-      rw (
-        opens-launches s h Interruption k i o,
-        i,
-        covered-rest k w,
-        le-ltb k k (omega arith),
-        all-true (λ m. ltb m k || inEvent s h Sag m) k (λ m l. rw (lt-ltb m k l)),
-      ))
-      (cases (before (inEvent s h Interruption) k))
-
   -- ---- landings
 
   module _ (n : ℕ) (past : (k : ℕ) → n ≤ k → h k ≡ Unknown) where
@@ -152,15 +120,6 @@ module _ (s : Settings) (h : ℕ → Half) where
     short-is : (k : ℕ) → k ≤ n → lands Sag k ≡ true → three (opens s h Sag k .short) ≡ shortfallFrom s h n (opens s h Sag k .start)
     short-is k high y = rw (landing Sag k high y .short, lands-at Sag k high y)
 
-    stray-is : (k : ℕ) → k ≤ n → lands Interruption k ≡ true → not (coveredAt s h k) ≡ strayFrom s h n (opens s h Interruption k .start)
-    stray-is k high y =
-        let a = opens s h Interruption k .start in
-        rw (
-          lands-at Interruption k high y,
-          covered-is k (both (before (inEvent s h Interruption) k) (not (inEvent s h Interruption k)) y .0),
-          contained-each s h n past a k (landing Interruption k high y .started),
-        )
-
     pub landed-at-next : (k : ℕ) → k ≤ n → landedBy (landedAt s h n k) (trackAt s h k) (trackAt s h (suc k)) (known (h k)) ≡ landedAt s h n (suc k)
     unfolding landedAt trackAt landed
     landed-at-next k high =
@@ -171,6 +130,4 @@ module _ (s : Settings) (h : ℕ → Half) where
         (ap (λ (x : ℕ). landed s h Sag (λ a. bit (not (seenBoth s h n a))) k + x)
         (bit-and (lands Sag k) (not (o .seen && known (h k)))
         ∙ where-true (lands Sag k) _ _ (λ y. ap (λ (b : Bool). bit (not b)) (seen-is k high y))))
-        (ap (λ (x : ℕ). landed s h Interruption (λ a. bit (strayFrom s h n a)) k + x)
-        (bit-and (lands Interruption k) (not (coveredAt s h k)) ∙ where-true (lands Interruption k) _ _ (λ y. ap bit (stray-is k high y))))
         (ap (λ (x : ℕ). landed s h Sag (shortfallFrom s h n) k + x) (where-true (lands Sag k) _ _ (λ y. short-is k high y))))

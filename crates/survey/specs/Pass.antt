@@ -1,7 +1,7 @@
 -- The pass over a recording that a site table takes, as the code runs it; proofs/ ties it to the rules.
 use Prim.Native.Nat.{ℕ, zero, suc, _+_, _-_, _*_, _≤_, _<_}
 use mathlib.Core.Path.{_≡_}
-use mathlib.Core.Bool.{Bool, true, false, not, _&&_, _||_, cond}
+use mathlib.Core.Bool.{Bool, true, false, not, _&&_, cond}
 use mathlib.Core.List.{List}
 use lib.ListN.{getD, set, replicate}
 use lib.IntN.{ℤ}
@@ -12,7 +12,7 @@ use Rattle.rules.specs.Refusals.{recordingCheck}
 use Rattle.rules.specs.declared.Taken.the-variants.{Accepted}
 use Rattle.rules.specs.Halves.{known, halfAt, halvesOf}
 use Rattle.rules.specs.Events.{inEvent, starts, endOf, startSeen, endSeen, shortsOf, three}
-use Rattle.rules.specs.Site.{cells, cellAt, isHealthy, isDisturbed, isUnknown, sagCell, isContained, cellsFrom}
+use Rattle.rules.specs.Site.{cells, cellAt, isHealthy, isDisturbed, isUnknown, sagCell, cellsFrom}
 use Rattle.rules.specs.declared.Settings.{Settings}
 use Rattle.rules.specs.declared.Half.{Half}
 use Rattle.rules.specs.declared.Kind.{Kind}
@@ -31,13 +31,10 @@ use Rattle.survey.specs.declared.Survey.{Survey}
 
 unfoldable pub trackedBy : Thresholds → ℕ → Track → Level → Track
 trackedBy m k t l =
-    let sag = stepBy Sag (m .sag) (t .known) k (t .sag) l in
-    let interruption = goesBy Interruption (m .interruption) (t .interruption) l in
     record {
       known = l .known;
-      sag = sag;
-      interruption = interruption;
-      covered = not interruption || (t .covered && sag .inside);
+      sag = stepBy Sag (m .sag) (t .known) k (t .sag) l;
+      interruption = goesBy Interruption (m .interruption) (t .interruption) l;
       swell = goesBy Swell (m .swell) (t .swell) l;
     }
 
@@ -57,13 +54,12 @@ startedBy n was is =
       swells = n .swells + bit (is .swell && not (was .swell));
     }
 
--- what the end of a sag and of an interruption adds
+-- what the end of a sag adds
 abbrev pub landedBy : Landed → Track → Track → Bool → Landed
 landedBy n was is isKnown =
     let ends = was .sag .inside && not (is .sag .inside) in
     record {
       unplaced = n .unplaced + bit (ends && not (was .sag .seen && isKnown));
-      stray = n .stray + bit (was .interruption && not (is .interruption) && not (was .covered));
       shortfall = n .shortfall + cond ends (three (was .sag .short)) 0;
     }
 
@@ -85,7 +81,6 @@ pub record Landable (s : Settings) (n : Landed) (was is : Track) (k : ℕ) (cs :
   pub placeable : Placeable s (was .sag .inside && not (is .sag .inside)) (was .sag) k cs
   pub light : Light (was .sag .short)
   pub unplaced-few : n .unplaced ≤ 4000000
-  pub stray-few : n .stray ≤ 4000000
   pub shortfall-low : n .shortfall ≤ 3000000000000000000
 
 -- ---- the state before half-cycle k, told by the rules
@@ -97,18 +92,12 @@ landed s h kind g (suc k) =
     landed s h kind g k
     + cond (before (inEvent s h kind) k && not (inEvent s h kind k)) (g (opens s h kind k .start)) 0
 
--- the interruption that is going on has lain in a sag so far; true where none is
-unfoldable pub coveredAt : Settings → (ℕ → Half) → ℕ → Bool
-coveredAt s h zero = true
-coveredAt s h (suc k) = not (inEvent s h Interruption k) || (coveredAt s h k && inEvent s h Sag k)
-
 unfoldable pub trackAt : Settings → (ℕ → Half) → ℕ → Track
 trackAt s h k =
     record {
       known = before (λ j. known (h j)) k;
       sag = opens s h Sag k;
       interruption = before (inEvent s h Interruption) k;
-      covered = coveredAt s h k;
       swell = before (inEvent s h Swell) k;
     }
 
@@ -128,21 +117,17 @@ startsAt s h k =
       swells = count (starts s h Swell) k;
     }
 
--- of the sag that starts at a: both ends seen; its shortfall. Of the interruption that starts at a: not contained in one sag
+-- of the sag that starts at a: both ends seen; its shortfall
 abbrev pub seenBoth : Settings → (ℕ → Half) → ℕ → ℕ → Bool
 seenBoth s h n a = startSeen h a && endSeen h (endOf s h n Sag a)
 
 abbrev pub shortfallFrom : Settings → (ℕ → Half) → ℕ → ℕ → ℕ
 shortfallFrom s h n a = three (shortsOf s h a (endOf s h n Sag a))
 
-abbrev pub strayFrom : Settings → (ℕ → Half) → ℕ → ℕ → Bool
-strayFrom s h n a = not (isContained s h n a (endOf s h n Interruption a))
-
 unfoldable pub landedAt : Settings → (ℕ → Half) → ℕ → ℕ → Landed
 landedAt s h n k =
     record {
       unplaced = landed s h Sag (λ a. bit (not (seenBoth s h n a))) k;
-      stray = landed s h Interruption (λ a. bit (strayFrom s h n a)) k;
       shortfall = landed s h Sag (shortfallFrom s h n) k;
     }
 
@@ -160,7 +145,7 @@ surveyAt s h n k =
 
 -- nothing goes on, and nothing is counted
 abbrev pub resting : Track
-resting = record { known = false; sag = closed; interruption = false; covered = true; swell = false }
+resting = record { known = false; sag = closed; interruption = false; swell = false }
 
 abbrev pub startSurvey : Survey
 startSurvey =
@@ -168,7 +153,7 @@ startSurvey =
       track = resting;
       classes = record { healthy = 0; disturbed = 0; unknown = 0 };
       starts = record { sags = 0; interruptions = 0; swells = 0 };
-      landed = record { unplaced = 0; stray = 0; shortfall = 0 };
+      landed = record { unplaced = 0; shortfall = 0 };
     }
 
 -- what a turn asks

@@ -27,13 +27,11 @@ use rules::Sums;
 use rules::Table;
 use score::cell_at;
 
-// What goes on before a half-cycle: whether the one before is known, the sag, whether an interruption or a swell is, and
-// whether the interruption has lain in a sag so far.
+// What goes on before a half-cycle: whether the one before is known, the sag, whether an interruption or a swell is.
 pub struct Track {
     pub known: bool,
     pub sag: Open,
     pub interruption: bool,
-    pub covered: bool,
     pub swell: bool,
 }
 
@@ -51,10 +49,9 @@ pub struct Starts {
     pub swells: u64,
 }
 
-// What is told when an event ends: sags that go in no cell, stray interruptions, shortfall.
+// What is told when a sag ends: sags that go in no cell, shortfall.
 pub struct Landed {
     pub unplaced: u64,
-    pub stray: u64,
     pub shortfall: u64,
 }
 
@@ -89,7 +86,6 @@ fn follow(m: Thresholds, k: u64, t: Track, l: Level) -> Track
         known: l.known,
         sag,
         interruption,
-        covered: !interruption | (t.covered & sag.inside),
         swell,
     }
 }
@@ -163,7 +159,6 @@ fn land(
     place(s, ends, o, k, known, cells);
     Landed {
         unplaced: bump(n.unplaced, ends & !(o.seen & known)),
-        stray: bump(n.stray, was.interruption & !is.interruption & !was.covered),
         shortfall: n.shortfall + shortfall_by(ends, short),
     }
 }
@@ -207,7 +202,6 @@ fn at_rest() -> Track
         known: false,
         sag: none(),
         interruption: false,
-        covered: true,
         swell: false,
     }
 }
@@ -229,7 +223,6 @@ fn start_survey() -> Survey
         },
         landed: Landed {
             unplaced: 0,
-            stray: 0,
             shortfall: 0,
         },
     }
@@ -263,7 +256,6 @@ pub fn table_of(s: Settings, samples: &[i32]) -> Table
         sags: starts.sags,
         interruptions: starts.interruptions,
         swells: starts.swells,
-        stray: landed.stray,
         shortfall: landed.shortfall,
     }
 }

@@ -11,7 +11,7 @@ use Rattle.rules.specs.Halves.{halvesOf, anyMissing, squares, sumsAt, halfAt, f
 use Rattle.rules.specs.Events.{carries, inRun, inEvent, starts, endOf, seenOf, extremeOf, earliest, climb, retainedOf, shortsOf, sixSums, typeOf}
 use Rattle.rules.specs.EventList.{eventFrom, eventAt, eventsOf}
 use Rattle.rules.specs.Scores.{inBounds, sagGood, isEvent, reasonOf, scoring, reasonNumber}
-use Rattle.rules.specs.Site.{rowOf, columnOf, cellOf, isHealthy, isDisturbed, isUnknown, isPlaced, isUnplaced, sagCell, isContained, isStray, sagShortfalls, grown, empty, zeroSettings, isUnsound}
+use Rattle.rules.specs.Site.{rowOf, columnOf, cellOf, isHealthy, isDisturbed, isUnknown, isPlaced, isUnplaced, sagCell, sagShortfalls, grown, empty, zeroSettings, isUnsound}
 use Rattle.rules.specs.Refusals.{recordingCheck, settingsCheck, roomCheck, listCheck, listed, written, freshened, soundCheck, fullCheck, addCheck, added}
 use Rattle.rules.specs.Known.{dip}
 use Rattle.rules.specs.declared.Settings.{Settings}
@@ -62,7 +62,7 @@ record Tables : Type 0 where
   place : ℕ
   table : List ℕ
 
--- `burr_fresh`, and `burr_add` to 57 lent numbers
+-- `burr_fresh`, and `burr_add` to 56 lent numbers
 freshOf : Settings → Tables
 freshOf s =
     record {
@@ -95,21 +95,21 @@ k2 = dip 500
 abbrev spoilt : List ℤ
 spoilt = set k2 5 (pos 100001)
 
--- a fresh table's 57 numbers, and those after K2: the settings; 5 half-cycles, 2 healthy, 3 disturbed, 0 unknown; one sag in cell 17;
--- unplaced, sags, interruptions, swells, stray, shortfall
+-- a fresh table's 56 numbers, and those after K2: the settings; 5 half-cycles, 2 healthy, 3 disturbed, 0 unknown; one sag in cell 17;
+-- unplaced, sags, interruptions, swells, shortfall
 abbrev fresh : List ℕ
-fresh = 8 ∷ 1000 ∷ 50 ∷ 90 ∷ 10 ∷ 110 ∷ 2 ∷ replicate 50 0
+fresh = 8 ∷ 1000 ∷ 50 ∷ 90 ∷ 10 ∷ 110 ∷ 2 ∷ replicate 49 0
 
 abbrev afterK2 : List ℕ
 afterK2 =
-    (8 ∷ 1000 ∷ 50 ∷ 90 ∷ 10 ∷ 110 ∷ 2 ∷ 5 ∷ 2 ∷ 3 ∷ 0 ∷ set (replicate 40 0) 17 1) ++ 0 ∷ 1 ∷ 0 ∷ 0 ∷ 0 ∷ 36000000 ∷ []
+    (8 ∷ 1000 ∷ 50 ∷ 90 ∷ 10 ∷ 110 ∷ 2 ∷ 5 ∷ 2 ∷ 3 ∷ 0 ∷ set (replicate 40 0) 17 1) ++ 0 ∷ 1 ∷ 0 ∷ 0 ∷ 36000000 ∷ []
 
 -- n numbers, one after the other
 abbrev from : ℕ → ℕ → List ℕ
 from i zero = []
 from i (suc n) = i ∷ from (suc i) n
 
--- a table with another number in each place, from 1 to 57
+-- a table with another number in each place, from 1 to 56
 abbrev counting : Table
 counting =
     record {
@@ -123,8 +123,7 @@ counting =
       sags = 53;
       interruptions = 54;
       swells = 55;
-      stray = 56;
-      shortfall = 57;
+      shortfall = 56;
     }
 
 record Answers : Type 0 where
@@ -134,7 +133,7 @@ record Answers : Type 0 where
   words : List ℕ
   table : Table
 
--- `table` is what the fresh table's numbers stand for, `zeros` what 57 zeros do
+-- `table` is what the fresh table's numbers stand for, `zeros` what 56 zeros do
 askedOf : (table zeros : Table) → Answers
 askedOf table zeros =
     record {
@@ -155,7 +154,7 @@ askedOf table zeros =
       -- a making, and one that is refused; K2 and a sample out of range offered to a fresh table, K2 to zeros
       tables = freshOf good ∷ freshOf bad ∷ addsTo table k2 ∷ addsTo table spoilt ∷ addsTo zeros k2 ∷ [];
       words = tableWords counting;
-      table = tableFrom (from 1 57);
+      table = tableFrom (from 1 56);
     }
 
 answers : Answers
@@ -182,12 +181,12 @@ answers =
           ∷ [];
       tables =
           record { number = 0; place = 0; table = fresh }
-          ∷ record { number = 1; place = 3; table = replicate 57 0 }
+          ∷ record { number = 1; place = 3; table = replicate 56 0 }
           ∷ record { number = 0; place = 0; table = afterK2 }
           ∷ record { number = 6; place = 5; table = fresh }
-          ∷ record { number = 9; place = 0; table = replicate 57 0 }
+          ∷ record { number = 9; place = 0; table = replicate 56 0 }
           ∷ [];
-      words = from 1 57;
+      words = from 1 56;
       table = counting;
     }
   where
@@ -203,16 +202,16 @@ answers =
 
 -- computed of the two tables as the rules make them, then said of their numbers
 computed : askedOf (empty good) (empty zeroSettings) ≡ answers
-unfolding askedOf answers scoresOf listsOf freshOf addsTo tableWords tableFrom firstBad badSetting settingsGood halvesOf anyMissing squares sumsAt halfAt full carries inRun inEvent starts endOf seenOf extremeOf earliest climb retainedOf shortsOf sixSums typeOf eventFrom eventAt eventsOf inBounds sagGood isEvent reasonOf scoring rowOf columnOf cellOf isHealthy isDisturbed isUnknown isPlaced isUnplaced sagCell isContained isStray sagShortfalls grown isUnsound recordingCheck settingsCheck roomCheck listCheck listed written freshened soundCheck fullCheck addCheck added div ofInt ofBits
+unfolding askedOf answers scoresOf listsOf freshOf addsTo tableWords tableFrom firstBad badSetting settingsGood halvesOf anyMissing squares sumsAt halfAt full carries inRun inEvent starts endOf seenOf extremeOf earliest climb retainedOf shortsOf sixSums typeOf eventFrom eventAt eventsOf inBounds sagGood isEvent reasonOf scoring rowOf columnOf cellOf isHealthy isDisturbed isUnknown isPlaced isUnplaced sagCell sagShortfalls grown isUnsound recordingCheck settingsCheck roomCheck listCheck listed written freshened soundCheck fullCheck addCheck added div ofInt ofBits
 computed = refl
 
 fresh-is : tableFrom fresh ≡ empty good
 unfolding tableFrom
 fresh-is = refl
 
-zeros-are : tableFrom (replicate 57 0) ≡ empty zeroSettings
+zeros-are : tableFrom (replicate 56 0) ≡ empty zeroSettings
 unfolding tableFrom
 zeros-are = refl
 
-boundary-answers : askedOf (tableFrom fresh) (tableFrom (replicate 57 0)) ≡ answers
+boundary-answers : askedOf (tableFrom fresh) (tableFrom (replicate 56 0)) ≡ answers
 boundary-answers = ap₂ askedOf fresh-is zeros-are ∙ computed

@@ -1,4 +1,4 @@
-// The numbers of the boundary: settings are seven, an event eight, a site table 57, in the order of the rules; an answer is its
+// The numbers of the boundary: settings are seven, an event eight, a site table 56, in the order of the rules; an answer is its
 // number and its place.
 use numbers::copy;
 use rules::Event;
@@ -93,8 +93,8 @@ pub fn place_in(refusal: Refusal) -> u64
     }
 }
 
-// The table that 57 numbers are.
-pub fn table_of(words: [u64; 57]) -> Table
+// The table that 56 numbers are.
+pub fn table_of(words: [u64; 56]) -> Table
     ensures { λ x. ⌜ x ≡ tableFrom words ⌝ }
 {
     let settings = settings(
@@ -119,13 +119,12 @@ pub fn table_of(words: [u64; 57]) -> Table
         sags: words[52],
         interruptions: words[53],
         swells: words[54],
-        stray: words[55],
-        shortfall: words[56],
+        shortfall: words[55],
     }
 }
 
-// A table's 57 numbers.
-pub fn words_of(t: Table) -> [u64; 57]
+// A table's 56 numbers.
+pub fn words_of(t: Table) -> [u64; 56]
     ensures { λ x. ⌜ x ≡ tableWords t ⌝ }
 {
     let s = t.settings;
@@ -143,15 +142,8 @@ pub fn words_of(t: Table) -> [u64; 57]
         t.disturbed,
         t.unknown,
     ];
-    let tail = [
-        t.unplaced,
-        t.sags,
-        t.interruptions,
-        t.swells,
-        t.stray,
-        t.shortfall,
-    ];
-    let mut w = [0; 57];
+    let tail = [t.unplaced, t.sags, t.interruptions, t.swells, t.shortfall];
+    let mut w = [0; 56];
     copy(&head, &mut w, 0);
     copy(&tail, &mut w, 51);
     copy(&cells, &mut w, 11);

@@ -21,13 +21,13 @@ fine c = settings-fine (c .before .before .before .before .args .t) (sym (c .bef
 few : (c : tie.Else2) → c .before .before .before .before .before .before .args .t .total ≤ 4000000
 few c = c .if2 .left
 
-counted : (c : tie.Else3) → CountsFine (c .before .before .before .before .before .before .before .before .before .before .before .args .t)
-counted c = counts-fine (c .before .before .before .before .before .before .before .before .before .before .before .args .t) (c .if3 .left)
+counted : (c : tie.Else3) → CountsFine (c .before .before .before .before .before .before .before .before .before .before .args .t)
+counted c = counts-fine (c .before .before .before .before .before .before .before .before .before .before .args .t) (c .if3 .left)
 
-classed : (c : tie.Else4) → let t = c .before .before .before .before .before .before .before .before .before .before .before .before .before .args .t in eqb (t .healthy + t .disturbed + t .unknown) (t .total) ≡ true
+classed : (c : tie.Else4) → let t = c .before .before .before .before .before .before .before .before .before .before .before .before .args .t in eqb (t .healthy + t .disturbed + t .unknown) (t .total) ≡ true
 classed c = sym (c .before .adds-up .ensures) ∙ not-false _ (c .if4 .left)
 
-placed : (c : tie.Else5) → let t = c .before .before .before .before .before .before .before .before .before .before .before .before .before .before .before .args .t in eqb (total (t .cells) + t .unplaced) (t .sags) ≡ true
+placed : (c : tie.Else5) → let t = c .before .before .before .before .before .before .before .before .before .before .before .before .before .before .args .t in eqb (total (t .cells) + t .unplaced) (t .sags) ≡ true
 placed c = sym (c .before .sags-add-up .ensures) ∙ not-false _ (c .if5 .left)
 
 first-bad-setting-requires : tie.Need-first-bad-setting-requires
@@ -40,31 +40,31 @@ returns-2 : tie.Need-returns-2
 returns-2 c = total-bad (c .before .before .before .before .before .before .args .t) (c .if2 .taken)
 
 returns-3 : tie.Need-returns-3
-returns-3 c = counts-bad (c .before .before .before .before .before .before .before .before .before .before .before .args .t) (c .if3 .taken)
+returns-3 c = counts-bad (c .before .before .before .before .before .before .before .before .before .before .args .t) (c .if3 .taken)
 
 adds-up-requires : tie.Need-adds-up-requires
 adds-up-requires c κs = search needs
 
 returns-4 : tie.Need-returns-4
-returns-4 c = classes-bad (c .before .before .before .before .before .before .before .before .before .before .before .before .before .args .t) (sym (c .before .adds-up .ensures) ∙ not-true _ (c .if4 .taken))
+returns-4 c = classes-bad (c .before .before .before .before .before .before .before .before .before .before .before .before .args .t) (sym (c .before .adds-up .ensures) ∙ not-true _ (c .if4 .taken))
 
 sags-add-up-requires : tie.Need-sags-add-up-requires
-sags-add-up-requires c κs = omega (arith, counted (c .before .before) .sags-high, few (c .before .before .before .before .before .before .before))
+sags-add-up-requires c κs = omega (arith, counted (c .before .before) .sags-high, few (c .before .before .before .before .before .before))
 
 returns-5 : tie.Need-returns-5
-returns-5 c = places-bad (c .before .before .before .before .before .before .before .before .before .before .before .before .before .before .before .args .t) (sym (c .before .sags-add-up .ensures) ∙ not-true _ (c .if5 .taken))
+returns-5 c = places-bad (c .before .before .before .before .before .before .before .before .before .before .before .before .before .before .args .t) (sym (c .before .sags-add-up .ensures) ∙ not-true _ (c .if5 .taken))
 
 full-of-requires : tie.Need-full-of-requires
-full-of-requires c κs = fine (c .before .before .before .before .before .before .before .before .before .before .before)
+full-of-requires c κs = fine (c .before .before .before .before .before .before .before .before .before .before)
 
 mul-result : tie.Need-mul-result
-mul-result c = omega (arith, c .full-of .ensures, full-high _ (good _ (fine (c .before .before .before .before .before .before .before .before .before .before .before .before))))
+mul-result c = omega (arith, c .full-of .ensures, full-high _ (good _ (fine (c .before .before .before .before .before .before .before .before .before .before .before))))
 
 mul-result-2 : tie.Need-mul-result-2
-mul-result-2 c = rw (c .before .full-of .ensures) (omega (arith, product-high (c .before .before .before .before .before .before .before .before .before .before .before .before .before .before .before .before .before .args .t) (fine (c .before .before .before .before .before .before .before .before .before .before .before .before .before)) (few (c .before .before .before .before .before .before .before .before .before .before .before))))
+mul-result-2 c = rw (c .before .full-of .ensures) (omega (arith, product-high (c .before .before .before .before .before .before .before .before .before .before .before .before .before .before .before .before .args .t) (fine (c .before .before .before .before .before .before .before .before .before .before .before .before)) (few (c .before .before .before .before .before .before .before .before .before .before))))
 
 returns-6 : tie.Need-returns-6
-returns-6 c = rw (c .before .before .full-of .ensures) (shortfall-tells (c .before .before .before .before .before .before .before .before .before .before .before .before .before .before .before .before .before .before .args .t) (fine (c .before .before .before .before .before .before .before .before .before .before .before .before .before .before)) (few (c .before .before .before .before .before .before .before .before .before .before .before .before)) (counted (c .before .before .before .before .before .before .before)) (classed (c .before .before .before .before .before)) (placed (c .before .before .before)))
+returns-6 c = rw (c .before .before .full-of .ensures) (shortfall-tells (c .before .before .before .before .before .before .before .before .before .before .before .before .before .before .before .before .before .args .t) (fine (c .before .before .before .before .before .before .before .before .before .before .before .before .before)) (few (c .before .before .before .before .before .before .before .before .before .before .before)) (counted (c .before .before .before .before .before .before .before)) (classed (c .before .before .before .before .before)) (placed (c .before .before .before)))
 
 pub is-unsound-spec : {M : Type 1} → statement M
 is-unsound-spec =

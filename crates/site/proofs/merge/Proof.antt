@@ -34,14 +34,11 @@ add-t14 : tie.Need-add-t14
 add-t14 c = omega (arith, c .before .before .before .before .before .before .before .before .before .before .before .before .before .before .before .before .before .before .before .before .pre .swells-few)
 
 add-t15 : tie.Need-add-t15
-add-t15 c = omega (arith, c .before .before .before .before .before .before .before .before .before .before .before .before .before .before .before .before .before .before .before .before .before .before .pre .stray-few)
-
-add-t16 : tie.Need-add-t16
-add-t16 c = omega (arith, c .before .before .before .before .before .before .before .before .before .before .before .before .before .before .before .before .before .before .before .before .before .before .before .before .pre .shortfall-low)
+add-t15 c = omega (arith, c .before .before .before .before .before .before .before .before .before .before .before .before .before .before .before .before .before .before .before .before .before .before .pre .shortfall-low)
 
 returns : tie.Need-returns
 unfolding merged
-returns c = rw (c .before .before .before .before .before .before .before .before .before .before .before .before .add-cells .ensures)
+returns c = rw (c .before .before .before .before .before .before .before .before .before .before .add-cells .ensures)
 
 pub merge-spec : {M : Type 1} → statement M
 merge-spec =
@@ -57,5 +54,4 @@ merge-spec =
     add-t13
     add-t14
     add-t15
-    add-t16
     returns)

@@ -16,7 +16,7 @@ goes-on-requires-2 c κs = search needs
 
 returns : tie.Need-returns
 unfolding trackedBy
-returns c = rw (c .before .before .before .before .step .ensures, c .before .before .before .goes-on .ensures, c .before .before .goes-on2 .ensures)
+returns c = rw (c .before .before .step .ensures, c .before .goes-on .ensures, c .goes-on2 .ensures)
 
 pub follow-spec : {M : Type 1} → statement M
 follow-spec = tie.close (tie.spec step-requires goes-on-requires goes-on-requires-2 returns)

@@ -1,4 +1,4 @@
--- `survey::land` meets its contract. What a sag's end and an interruption's end add, each by its callee.
+-- `survey::land` meets its contract. What a sag's end adds, each by its callee.
 -- Assumes nothing.
 use native.Mathlib.Omega.{arith}
 use borrow.Author.Needs.{needs}
@@ -11,20 +11,17 @@ place-requires c κs = search needs
 bump-requires : tie.Need-bump-requires
 bump-requires c κs = search needs
 
-bump-requires-2 : tie.Need-bump-requires-2
-bump-requires-2 c κs = search needs
-
 shortfall-by-requires : tie.Need-shortfall-by-requires
 shortfall-by-requires c κs = search needs
 
-add-t24 : tie.Need-add-t24
-add-t24 c = omega (arith, c .before .before .before .before .before .before .before .before .before .before .before .before .before .before .before .pre .shortfall-low, c .before .shortfall-by .ensures .1)
+add-t19 : tie.Need-add-t19
+add-t19 c = omega (arith, c .before .before .before .before .before .before .before .before .before .before .before .pre .shortfall-low, c .before .shortfall-by .ensures .1)
 
 returns : tie.Need-returns
 returns c =
-    (rw (c .before .before .before .before .before .before .bump .ensures, c .before .before .bump2 .ensures, c .before .shortfall-by .ensures .0), c .before .before .before .before .before .before .before .before .place .ensures)
+    (rw (c .before .before .bump .ensures, c .before .shortfall-by .ensures .0), c .before .before .before .before .place .ensures)
 
 pub land-spec : {M : Type 1} → statement M
 land-spec =
     tie.close
-    (tie.spec place-requires bump-requires bump-requires-2 shortfall-by-requires add-t24 returns)
+    (tie.spec place-requires bump-requires shortfall-by-requires add-t19 returns)
