@@ -18,7 +18,7 @@
  * An event is eight numbers (BURR_EVENT): kind (1 sag, 2 interruption, 3 swell), start, end, seen (1 for the start plus 2
  * for the end), extreme, retained, shortfall, type. The last two are 0 for kinds 2 and 3.
  *
- * A site table is 57 numbers (BURR_TABLE), which the host keeps and lends:
+ * A site table is 56 numbers (BURR_TABLE), which the host keeps and lends:
  *
  *      0 to 6   the seven settings
  *      7        total half-cycles
@@ -30,8 +30,7 @@
  *     52        sags
  *     53        interruptions
  *     54        swells
- *     55        stray interruptions
- *     56        shortfall
+ *     55        shortfall
  *
  * What is turned away has a number and a place:
  *
@@ -56,7 +55,7 @@
 #include <stdint.h>
 
 #define BURR_EVENT 8
-#define BURR_TABLE 57
+#define BURR_TABLE 56
 #define BURR_CELLS 40
 
 #ifdef __cplusplus

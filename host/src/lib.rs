@@ -20,8 +20,8 @@ pub const WORDS: usize = 8;
 pub type Event = [u64; WORDS];
 
 /// How many numbers a site table has: seven settings; total, healthy, disturbed, unknown; forty cells; unplaced; sags,
-/// interruptions, swells; stray interruptions; shortfall.
-pub const TABLE: usize = 57;
+/// interruptions, swells; shortfall.
+pub const TABLE: usize = 56;
 
 /// A site table.
 pub type Table = [u64; TABLE];
@@ -118,7 +118,7 @@ pub fn list(s: &Settings, samples: &[i32], events: &mut [u64]) -> Result<u64, Re
 /// A fresh table for the settings; where they are refused, the table is all zeros.
 pub fn fresh(s: &Settings) -> (Result<(), Refused>, Table) {
     let (mut table, mut place) = ([0; TABLE], 0);
-    // SAFETY: the table has the 57 numbers that the library writes.
+    // SAFETY: the table has the 56 numbers that the library writes.
     let number = unsafe {
         raw::burr_fresh(s.n, s.r, s.f, s.sag, s.interruption, s.swell, s.hysteresis, table.as_mut_ptr(), &mut place)
     };
@@ -128,7 +128,7 @@ pub fn fresh(s: &Settings) -> (Result<(), Refused>, Table) {
 /// Adds a recording to the table; a refusal leaves it as it was.
 pub fn add(table: &mut Table, samples: &[i32]) -> Result<(), Refused> {
     let mut place = 0;
-    // SAFETY: the table has 57 numbers, and the samples' pointer goes with their length.
+    // SAFETY: the table has 56 numbers, and the samples' pointer goes with their length.
     let number = unsafe { raw::burr_add(table.as_mut_ptr(), samples.as_ptr(), samples.len(), &mut place) };
     accepted(number, place)
 }
