@@ -146,7 +146,7 @@ x.site: N 8, R 1000, 50 Hz; sag 90 %, interruption 10 %, swell 110 %, hysteresis
   half-cycles    10 (0.100 s)
                  4 healthy, 6 disturbed, 0 unknown
   sags           2 (0 unplaced)
-  interruptions  0 (0 stray)
+  interruptions  0
   swells         0
   shortfall      72000000 = 0.090 s
 
@@ -162,8 +162,8 @@ x.site: N 8, R 1000, 50 Hz; sag 90 %, interruption 10 %, swell 110 %, hysteresis
     let cells = "\"cells\":[[0,0,0,0,0,0,0,0],[0,0,0,0,0,0,0,0],[0,2,0,0,0,0,0,0],[0,0,0,0,0,0,0,0],[0,0,0,0,0,0,0,0]]";
     assert!(json.contains(cells) && json.ends_with("\"shortfall\":72000000,\"shortfall_seconds\":0.090}\n"), "{json}");
     let csv = folder.accepted(&["show", "x.site", "--csv"]);
-    assert_eq!(csv.lines().count(), 58);
-    assert_eq!(csv.replace(',', " ").replace("name value\n", "burrcradle site 1\n"), folder.read("x.site"));
+    assert_eq!(csv.lines().count(), 57);
+    assert_eq!(csv.replace(',', " ").replace("name value\n", "burrcradle site 2\n"), folder.read("x.site"));
 }
 
 #[test]

@@ -93,7 +93,7 @@ fn lists_through_standard_input() {
 }
 
 /// The table that a recording makes of a fresh one follows from its events: sags with a score are in their cells, other
-/// sags are unplaced, and no known answer has a stray interruption.
+/// sags are unplaced.
 #[test]
 fn tables() {
     let folder = Folder::new("known-tables");
@@ -116,7 +116,6 @@ fn tables() {
         }
         let unplaced = case.events.iter().filter(|(e, _)| e[0] == 1 && e[9] == 40).count() as u64;
         assert_eq!(folder.counted(&site, "unplaced"), unplaced, "{}", case.name);
-        assert_eq!(folder.counted(&site, "stray"), 0, "{}", case.name);
         let shortfall: u64 = case.events.iter().map(|(e, _)| e[6]).sum();
         assert_eq!(folder.counted(&site, "shortfall"), shortfall, "{}", case.name);
     }
@@ -148,7 +147,6 @@ fn one_table_of_all() {
         ("cell-1", 1),
         ("cell-32", 1),
         ("cell-33", 1),
-        ("stray", 0),
     ];
     for (name, count) in wanted {
         assert_eq!(folder.counted("all.site", name), count, "{name}");

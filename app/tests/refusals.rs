@@ -156,7 +156,7 @@ fn refusal_9_finds_each_kind_of_damage() {
         ("cell-1 1", "cell-1 2"),
         ("unplaced 0", "unplaced 1"),
         ("swells 0", "swells 6"),
-        ("stray 0", "stray 2"),
+        ("interruptions 1", "interruptions 6"),
         ("shortfall 48000000", "shortfall 120000001"),
     ];
     for (was, is) in damage {

@@ -1,6 +1,6 @@
 //! A site's file: damage is told and never written over, a kill leaves a whole table, two adds at once lose nothing.
 mod common;
-use common::{csv, k2, Folder};
+use common::{blocks, csv, k2, Folder};
 use std::{
     fs::{self, File},
     process::Stdio,
@@ -16,13 +16,13 @@ fn with_k2(name: &str) -> Folder {
 }
 
 #[test]
-fn the_file_is_57_names_and_numbers() {
+fn the_file_is_56_names_and_numbers() {
     let folder = with_k2("site-file");
     folder.accepted(&["add", "x.site", "k.csv"]);
     let text = folder.read("x.site");
     let lines: Vec<&str> = text.lines().collect();
-    assert_eq!(lines.len(), 58);
-    assert_eq!(lines[0], "burrcradle site 1");
+    assert_eq!(lines.len(), 57);
+    assert_eq!(lines[0], "burrcradle site 2");
     assert_eq!(
         lines[1..12],
         [
@@ -40,7 +40,7 @@ fn the_file_is_57_names_and_numbers() {
         ]
     );
     assert_eq!((lines[12], lines[29], lines[51]), ("cell-0 0", "cell-17 1", "cell-39 0"));
-    assert_eq!(lines[52..], ["unplaced 0", "sags 1", "interruptions 0", "swells 0", "stray 0", "shortfall 36000000"]);
+    assert_eq!(lines[52..], ["unplaced 0", "sags 1", "interruptions 0", "swells 0", "shortfall 36000000"]);
 }
 
 /// A file cut short anywhere is a parse error, and `add` leaves it as it is.
@@ -57,7 +57,7 @@ fn a_file_cut_short_is_told() {
     }
     let short = &whole[..whole.len() - 3];
     folder.write("x.site", short);
-    folder.bad(&["add", "x.site", "k.csv"], "line 58 is cut short");
+    folder.bad(&["add", "x.site", "k.csv"], "line 57 is cut short");
     assert_eq!(folder.read("x.site"), short);
 }
 
@@ -66,8 +66,8 @@ fn an_edited_file_is_told_with_its_line() {
     let folder = with_k2("site-edited");
     let good = folder.read("x.site");
     let cases = [
-        (good.replace("burrcradle site 1", "burrcradle site 2"), "line 1: "),
-        (good.replace("burrcradle site 1\n", ""), "line 1: "),
+        (good.replace("burrcradle site 2", "burrcradle site 3"), "line 1: "),
+        (good.replace("burrcradle site 2\n", ""), "line 1: "),
         (good.replace("\nr 1000\n", "\nr 1e3\n"), "line 3: \"1e3\" is no whole number"),
         (good.replace("\nr 1000\n", "\nr -1000\n"), "line 3: "),
         (good.replace("\nr 1000\n", "\nr 01000\n"), "line 3: "),
@@ -77,9 +77,9 @@ fn an_edited_file_is_told_with_its_line() {
         (good.replace("\nr 1000\n", "\n"), "line 3: \"f 50\" where \"r\""),
         (good.replace("\ntotal 0\n", "\ntotals 0\n"), "line 9: "),
         (good.replace('\n', "\r\n"), "line 1: "),
-        (format!("{good}\n"), "line 59: "),
-        (format!("{good}cell-40 0\n"), "line 59: "),
-        (format!("{good}x"), "line 59 is cut short"),
+        (format!("{good}\n"), "line 58: "),
+        (format!("{good}cell-40 0\n"), "line 58: "),
+        (format!("{good}x"), "line 58 is cut short"),
         (good.replace("sags", "s\u{fffd}gs"), "line 54: "),
     ];
     for (text, words) in cases {
@@ -89,6 +89,98 @@ fn an_edited_file_is_told_with_its_line() {
             assert!(ran.err.contains("x.site: "), "{ran:?}");
         }
         assert_eq!(folder.read("x.site"), text, "left as it is");
+    }
+}
+
+/// A site's file that program 0.2.0 wrote: a fresh site to which the recording of `with_k6` was added.
+const VERSION_1: &str = include_str!("version-1.site");
+
+/// A sag with an interruption in it, and a site that has taken it once, kept by program 0.2.0.
+fn with_k6(name: &str) -> Folder {
+    let folder = Folder::new(name);
+    folder.write("k.csv", csv(&blocks(&[1000, 1000, 0, 0, 1000, 1000])));
+    folder.write("x.site", VERSION_1);
+    folder
+}
+
+/// The same site, kept in this version from the start.
+fn kept_since(folder: &Folder) {
+    folder.site("y.site");
+    folder.accepted(&["add", "y.site", "k.csv"]);
+}
+
+#[test]
+fn a_file_of_version_1_is_read_as_it_was_meant_and_left() {
+    let folder = with_k6("site-version-1");
+    kept_since(&folder);
+    let asked: [&[&str]; 4] = [
+        &["show", "SITE"],
+        &["show", "SITE", "--json"],
+        &["show", "SITE", "--csv"],
+        &["list", "k.csv", "--site", "SITE"],
+    ];
+    for args in asked {
+        let of = |site: &str| {
+            let args: Vec<&str> = args.iter().map(|arg| if *arg == "SITE" { site } else { arg }).collect();
+            folder.accepted(&args).replace(site, "SITE")
+        };
+        assert_eq!(of("x.site"), of("y.site"), "{args:?}");
+    }
+    folder.accepted(&["report", "x.site", "k.csv", "-o", "x.html"]);
+    assert_eq!(folder.read("x.site"), VERSION_1, "reading writes nothing");
+}
+
+#[test]
+fn the_next_add_writes_a_file_of_version_1_in_this_one() {
+    let folder = with_k6("site-version-1-add");
+    kept_since(&folder);
+    folder.write("bad.csv", csv(&k2()[..27]));
+    folder.refused(&["add", "x.site", "k.csv", "bad.csv"], 4, 0);
+    assert_eq!(folder.read("x.site"), VERSION_1, "a refused add leaves the version too");
+    let told = folder.accepted(&["add", "x.site", "k.csv"]);
+    assert_eq!(told.replace("x.site", "y.site"), folder.accepted(&["add", "y.site", "k.csv"]));
+    assert_eq!(folder.read("x.site"), folder.read("y.site"));
+    // Number by number: what was there and what the recording adds, and no count but the one that went is missing.
+    let numbers = |text: &str| -> Vec<(String, u64)> {
+        let pairs = text.lines().skip(1).map(|line| line.split_once(' ').unwrap());
+        pairs.map(|(name, number)| (name.to_string(), number.parse().unwrap())).collect()
+    };
+    let mut wanted = numbers(VERSION_1);
+    assert_eq!((wanted.len(), wanted.remove(55)), (57, ("stray".to_string(), 0)));
+    wanted[7..].iter_mut().for_each(|(_, number)| *number *= 2);
+    assert_eq!(numbers(&folder.read("x.site")), wanted);
+}
+
+/// An earlier file is held to its own shape, and what breaks it is told and left.
+#[test]
+fn a_file_of_version_1_is_held_to_its_shape() {
+    let folder = with_k6("site-version-1-shape");
+    let now = VERSION_1.replace("burrcradle site 1", "burrcradle site 2");
+    let cases = [
+        (VERSION_1.replace("stray 0\n", ""), "line 57: \"shortfall 48000000\" where \"stray\""),
+        (VERSION_1.replace("stray 0", "stray -1"), "line 57: \"-1\" is no whole number"),
+        (VERSION_1.replace("stray 0\nshortfall 48000000\n", "shortfall 48000000\nstray 0\n"), "line 57: "),
+        (format!("{VERSION_1}stray 0\n"), "line 59: "),
+        (now, "line 57: \"stray 0\" where \"shortfall\""),
+    ];
+    for (text, words) in cases {
+        folder.write("x.site", &text);
+        folder.bad(&["show", "x.site"], words);
+        folder.bad(&["add", "x.site", "k.csv"], words);
+        assert_eq!(folder.read("x.site"), text, "left as it is");
+    }
+    for length in 0..VERSION_1.len() {
+        folder.write("x.site", &VERSION_1[..length]);
+        assert_eq!(folder.run(&["show", "x.site"]).status, 2, "{length}");
+    }
+    // At most the interruptions, of which there is one.
+    folder.write("x.site", VERSION_1.replace("stray 0", "stray 1"));
+    folder.accepted(&["show", "x.site"]);
+    for unsound in [VERSION_1.replace("stray 0", "stray 2"), VERSION_1.replace("swells 0", "swells 6")] {
+        folder.write("x.site", &unsound);
+        folder.refused(&["show", "x.site"], 9, 0);
+        folder.refused(&["add", "x.site", "k.csv"], 9, 0);
+        assert_eq!(folder.read("x.site"), unsound, "left as it is");
     }
 }
 

@@ -127,7 +127,6 @@ impl Answer {
             all.sags += c.sags;
             all.interruptions += c.interruptions;
             all.swells += c.swells;
-            all.stray += c.stray;
             all.shortfall += c.shortfall;
         }
         all

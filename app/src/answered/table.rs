@@ -8,7 +8,7 @@ pub const SETTINGS: [&str; 7] = ["n", "r", "f", "sag", "interruption", "swell", 
 pub fn names() -> Vec<String> {
     let halves = ["total", "healthy", "disturbed", "unknown"].map(String::from);
     let cells = (0..40).map(|cell| format!("cell-{cell}"));
-    let events = ["unplaced", "sags", "interruptions", "swells", "stray", "shortfall"].map(String::from);
+    let events = ["unplaced", "sags", "interruptions", "swells", "shortfall"].map(String::from);
     SETTINGS.map(String::from).into_iter().chain(halves).chain(cells).chain(events).collect()
 }
 
@@ -23,15 +23,13 @@ pub struct Counts {
     pub sags: u64,
     pub interruptions: u64,
     pub swells: u64,
-    pub stray: u64,
     pub shortfall: u64,
 }
 
 pub fn counts(table: &Table) -> Counts {
     let [total, healthy, disturbed, unknown] = [table[7], table[8], table[9], table[10]];
-    let [unplaced, sags, interruptions, swells, stray, shortfall] =
-        [table[51], table[52], table[53], table[54], table[55], table[56]];
-    Counts { total, healthy, disturbed, unknown, unplaced, sags, interruptions, swells, stray, shortfall }
+    let [unplaced, sags, interruptions, swells, shortfall] = [table[51], table[52], table[53], table[54], table[55]];
+    Counts { total, healthy, disturbed, unknown, unplaced, sags, interruptions, swells, shortfall }
 }
 
 /// The forty cells of a table, in order.

@@ -1,5 +1,6 @@
-//! A site's file: a version line, then the table's 57 numbers by name, one to a line. It is replaced as a whole, so that
-//! a kill at any moment leaves the old or the new table, and a file that makes no sense is never written over.
+//! A site's file: a version line, then the table's 56 numbers by name, one to a line. It is replaced as a whole, so that
+//! a kill at any moment leaves the old or the new table, and a file that makes no sense is never written over. A file of
+//! the version before is read as it was meant, and the next `add` writes it in this one.
 use super::beside::{self, Beside};
 use crate::{
     answered::table,
@@ -15,32 +16,61 @@ use std::{
     time::{Duration, Instant},
 };
 
-const VERSION: &str = "burrcradle site 1";
+const VERSION: &str = "burrcradle site 2";
+
+/// The version before. It had one number more: interruptions outside any sag, of which there are none.
+const VERSION_BEFORE: &str = "burrcradle site 1";
+const LEFT_OUT: &str = "stray";
+
+/// The numbers of a file by name, in the order of its version.
+type Numbers = Vec<(String, u64)>;
 
 /// The table of a site's file, which the library finds sound.
 pub fn load(path: &Path) -> Result<Table, Failure> {
     let name = path.display().to_string();
     let bytes = fs::read(path).map_err(|e| Failure::file(&name, e))?;
-    let table = parse(&bytes).map_err(|why| Failure::file(&name, why))?;
-    match sound(&table) {
-        Ok(()) => Ok(table),
-        Err(refused) => {
-            let more = "the file is damaged or was edited, and is left as it is".to_string();
-            Err(Failure::Refused(Refusal { what: name, refused, more }))
-        }
+    let numbers = parse(&bytes).map_err(|why| Failure::file(&name, why))?;
+    let table = today(numbers).and_then(sound);
+    table.map_err(|refused| {
+        let more = "the file is damaged or was edited, and is left as it is".to_string();
+        Failure::Refused(Refusal { what: name, refused, more })
+    })
+}
+
+/// The table that a file's numbers are. What the version before had besides goes, and is held to what it had to be: no more
+/// than the interruptions, or the table was unsound.
+fn today(mut numbers: Numbers) -> Result<Table, Refused> {
+    let left_out = numbers.iter().position(|(name, _)| name == LEFT_OUT).map(|at| numbers.remove(at).1);
+    let mut table = [0; TABLE];
+    table.iter_mut().zip(numbers).for_each(|(word, (_, number))| *word = number);
+    match left_out {
+        Some(count) if count > table::counts(&table).interruptions => Err(Refused { number: 9, place: 0 }),
+        _ => Ok(table),
     }
 }
 
 /// Asks the library to add no samples at all: an unsound table is refusal 9, and to a sound one that is refusal 3.
-fn sound(table: &Table) -> Result<(), Refused> {
+fn sound(table: Table) -> Result<Table, Refused> {
     match host::add(&mut table.clone(), &[]) {
         Err(refused) if refused.number != 3 => Err(refused),
-        _ => Ok(()),
+        _ => Ok(table),
     }
 }
 
-/// Reads what `render` writes, and nothing else: a value in other digits or a line cut short is an error.
-fn parse(bytes: &[u8]) -> Result<Table, String> {
+/// The names of a version's numbers, in order; none where there is no such version.
+fn names(version: &str) -> Option<Vec<String>> {
+    let mut names = table::names();
+    match version {
+        VERSION => {}
+        VERSION_BEFORE => names.insert(names.len() - 1, LEFT_OUT.into()),
+        _ => return None,
+    }
+    Some(names)
+}
+
+/// Reads what `render` writes, or wrote in the version before, and nothing else: a value in other digits or a line cut
+/// short is an error.
+fn parse(bytes: &[u8]) -> Result<Numbers, String> {
     let text = String::from_utf8_lossy(bytes);
     let mut lines = text.split_inclusive('\n').enumerate().map(|(at, line)| (at + 1, line));
     let mut next = |wanted: &str| match lines.next() {
@@ -51,18 +81,19 @@ fn parse(bytes: &[u8]) -> Result<Table, String> {
         None => Err(format!("the file ends where {wanted} is wanted")),
     };
     let (_, version) = next("the version line")?;
-    if version != VERSION {
+    let Some(names) = names(&version) else {
         return Err(format!("line 1: {version:?} where {VERSION:?} is wanted: no site's file, or of another version"));
-    }
-    let mut table = [0; TABLE];
-    for (word, name) in table.iter_mut().zip(table::names()) {
+    };
+    let mut numbers = Numbers::new();
+    for name in names {
         let (at, line) = next(&name)?;
-        *word = value(&line, &name).map_err(|why| format!("line {at}: {why}"))?;
+        let number = value(&line, &name).map_err(|why| format!("line {at}: {why}"))?;
+        numbers.push((name, number));
     }
     match next("nothing more") {
         Ok((at, line)) => Err(format!("line {at}: {line:?} after the last number")),
         Err(why) if why.starts_with("line") => Err(why),
-        Err(_) => Ok(table),
+        Err(_) => Ok(numbers),
     }
 }
 

@@ -165,7 +165,6 @@ pub fn table(table: &Table) -> Json {
         ("sags", Json::whole(c.sags)),
         ("interruptions", Json::whole(c.interruptions)),
         ("swells", Json::whole(c.swells)),
-        ("stray", Json::whole(c.stray)),
         ("shortfall", Json::whole(c.shortfall)),
         ("shortfall_seconds", Json::Number(words::shortfall_seconds(&s, c.shortfall))),
     ])

@@ -150,7 +150,7 @@ pub fn table(name: &str, table: &Table, paint: &Paint) -> String {
         ("half-cycles", format!("{} ({})", c.total, words::seconds(c.total, s.f))),
         ("", format!("{} healthy, {} disturbed, {} unknown", c.healthy, c.disturbed, c.unknown)),
         ("sags", format!("{} ({} unplaced)", c.sags, c.unplaced)),
-        ("interruptions", format!("{} ({} stray)", c.interruptions, c.stray)),
+        ("interruptions", c.interruptions.to_string()),
         ("swells", c.swells.to_string()),
         ("shortfall", format!("{} = {} s", c.shortfall, words::shortfall_seconds(&s, c.shortfall))),
     ];

@@ -69,7 +69,7 @@ fn site_section(s: &Settings, contents: &Contents) -> String {
     tiles.extend(unknown_tile(s, &c));
     tiles.extend([
         tile(&c.sags.to_string(), "sags", &format!("{} unplaced", c.unplaced)),
-        tile(&c.interruptions.to_string(), "interruptions", &format!("{} stray", c.stray)),
+        tile(&c.interruptions.to_string(), "interruptions", ""),
         tile(&c.swells.to_string(), "swells", ""),
         tile(&format!("{} s", words::shortfall_seconds(s, c.shortfall)), "shortfall", &c.shortfall.to_string()),
     ]);
