@@ -21,7 +21,6 @@ use Rattle.rules.specs.Site.{cellOf, isHealthy, isDisturbed, isUnknown, 
 use Rattle.rules.specs.Refusals.{recordingCheck, settingsCheck, byCheck, andThen, freshened, soundCheck, fullCheck, addCheck, added}
 use Rattle.rules.specs.Demands.{Scorable, offer, taken, admits, admitted, sumOver, placedIn, Sound, SumsUp}
 use Rattle.rules.specs.declared.Settings.{Settings}
-use Rattle.rules.specs.declared.Half.{Half}
 use Rattle.rules.specs.declared.Kind.the-variants.{Sag, Interruption, Swell}
 use Rattle.rules.specs.declared.Table.{Table}
 use Rattle.rules.specs.declared.Refusal.{Refusal}
@@ -32,7 +31,7 @@ use Rattle.rules.proofs.Booleans.{both, neither}
 use Rattle.rules.proofs.Borders.{cells-make-up}
 use Rattle.rules.proofs.Bounded.{count-le, sum-same}
 use Rattle.rules.proofs.Choices.{of-cond}
-use Rattle.rules.proofs.Classes.{count-cut, three-classes, placed-or-not}
+use Rattle.rules.proofs.Classes.{three-classes, placed-or-not}
 use Rattle.rules.proofs.DemandTwo.{shorts-high, event-passes, reason-of, seen-both}
 use Rattle.rules.proofs.Ranges.{good}
 use Rattle.rules.proofs.Samples.{accepted-recording, sum-le, goes-on, both-accept}

@@ -32,7 +32,7 @@ use Rattle.rules.specs.declared.Taken.the-variants.{Accepted}
 use Rattle.rules.proofs.Booleans.{both, not-both, bit-le}
 use Rattle.rules.proofs.Choices.{of-cond, lower}
 use Rattle.rules.proofs.Longest.{starts-run, run-starts, starts-before-end, start-high, end-high, half-past}
-use Rattle.rules.proofs.Order.{in-list}
+use Rattle.rules.proofs.Order.{in-list, end-is}
 use Rattle.rules.proofs.Ranges.{good}
 use Rattle.rules.proofs.Runs.{in-next}
 use Rattle.rules.proofs.Samples.{accepted-recording, sums-low, length-six, type-high}
@@ -42,10 +42,6 @@ use Rattle.rules.proofs.Shortfall.{three-channels}
 -- ---- the list holds the longest unbroken runs of each kind
 
 module _ (s : Settings) (xs : List ℤ) where
-  end-is : (kind : Kind) (a : ℕ) → eventFrom s xs kind a .end ≡ endOf s (halfAt s xs) (halvesOf s xs) kind a
-  unfolding eventFrom
-  end-is kind a = refl
-
   -- THE LAW: an event is in the list exactly if it is that of a longest unbroken run, from a up to b, of its kind
   pub events-exact : (e : Event)
       → List·Memᴰ e (eventsOf s xs)
@@ -53,7 +49,7 @@ module _ (s : Settings) (xs : List ℤ) where
   events-exact e = (
     λ m.
         let r = in-list s xs e .0 m in
-        (r .0, r .1, endOf s (halfAt s xs) (halvesOf s xs) (r .0) (r .1), starts-run s (halfAt s xs) (halvesOf s xs) (half-past s xs) (r .0) (r .1) (r .3), r .4, ap (λ v. v .end) (r .4) ∙ end-is (r .0) (r .1)),
+        (r .0, r .1, endOf s (halfAt s xs) (halvesOf s xs) (r .0) (r .1), starts-run s (halfAt s xs) (halvesOf s xs) (half-past s xs) (r .0) (r .1) (r .3), r .4, ap (λ v. v .end) (r .4) ∙ end-is s xs (r .0) (r .1)),
     λ r.
         let t = run-starts s (halfAt s xs) (halvesOf s xs) (half-past s xs) (r .0) (r .1) (r .2) (r .3) .0 in
         in-list s xs e .1 (r .0, r .1, start-high s (halfAt s xs) (halvesOf s xs) (half-past s xs) (r .0) (r .1) t, t, r .4),

@@ -1,7 +1,7 @@
 -- The list of a recording's events holds each event of each kind once, and no other, in order of start and then kind. Each list that
 -- `join` puts after another starts later, and the three of one start differ in kind. Assumes nothing.
 use Prim.Native.Nat.{ℕ, zero, suc, _+_, _*_, _<_}
-use mathlib.Core.Path.{_≡_, refl, ap, _∙_}
+use mathlib.Core.Path.{_≡_, refl, sym, ap, _∙_}
 use mathlib.Core.Bool.{Bool, true, false, cond}
 use mathlib.Core.List.{List, [], _∷_, _++_, List·Memᴰ, List·Memᴰ·head, List·Memᴰ·tail, List·Memᴰ·not-nil, List·Memᴰ·append-cases, List·Memᴰ·eq-of-singleton, Memᴰ·append-left, Memᴰ·append-right}
 use mathlib.Core.Logic.{⊎-elim, _↔_}
@@ -12,7 +12,7 @@ use lib.IntN.{ℤ}
 use lib.ListN.{length, getD, length-append}
 use Rattle.rules.specs.Bounded.{bit, count, join}
 use Rattle.rules.specs.Halves.{halfAt, halvesOf}
-use Rattle.rules.specs.Events.{starts}
+use Rattle.rules.specs.Events.{starts, endOf}
 use Rattle.rules.specs.EventList.{kindNumber, eventFrom, eventAt, eventsAt, eventsOf, flat}
 use Rattle.rules.specs.Demands.{earlier, every, sorted}
 use Rattle.rules.specs.declared.Settings.{Settings}
@@ -57,6 +57,18 @@ module _ {A : Type 0} (f : ℕ → List A) where
 
 -- ---- what the list of events holds
 
+-- each kind has a number of its own
+same-kind : (x y : Kind) → kindNumber x ≡ kindNumber y → x ≡ y
+same-kind Sag Sag e = refl
+same-kind Sag Interruption e = absurd (omega arith)
+same-kind Sag Swell e = absurd (omega arith)
+same-kind Interruption Sag e = absurd (omega arith)
+same-kind Interruption Interruption e = refl
+same-kind Interruption Swell e = absurd (omega arith)
+same-kind Swell Sag e = absurd (omega arith)
+same-kind Swell Interruption e = absurd (omega arith)
+same-kind Swell Swell e = refl
+
 module _ (s : Settings) (xs : List ℤ) where
   in-at : (kind : Kind) (k : ℕ) (e : Event) → List·Memᴰ e (eventAt s xs kind k)
       → (starts s (halfAt s xs) kind k ≡ true) × (e ≡ eventFrom s xs kind k)
@@ -97,15 +109,29 @@ module _ (s : Settings) (xs : List ℤ) where
     λ r. join-in (eventsAt s xs) (halvesOf s xs) (r .1) e (r .2) (three-in (r .0) (r .1) e (at-in (r .0) (r .1) e (r .3) (r .4))),
   )
 
-  -- ---- in order
+  -- ---- kind, start and end of an event
 
-  start-is : (kind : Kind) (k : ℕ) → eventFrom s xs kind k .start ≡ k
+  pub kind-is : (kind : Kind) (k : ℕ) → eventFrom s xs kind k .kind ≡ kindNumber kind
+  unfolding eventFrom
+  kind-is kind k = refl
+
+  pub start-is : (kind : Kind) (k : ℕ) → eventFrom s xs kind k .start ≡ k
   unfolding eventFrom
   start-is kind k = refl
 
-  kind-is : (kind : Kind) (k : ℕ) → eventFrom s xs kind k .kind ≡ kindNumber kind
+  pub end-is : (kind : Kind) (k : ℕ) → eventFrom s xs kind k .end ≡ endOf s (halfAt s xs) (halvesOf s xs) kind k
   unfolding eventFrom
-  kind-is kind k = refl
+  end-is kind k = refl
+
+  -- an event of the list with a kind's number is that kind's
+  pub of-kind : (kind : Kind) (e : Event) → List·Memᴰ e (eventsOf s xs) → e .kind ≡ kindNumber kind
+      → (a : ℕ) × (starts s (halfAt s xs) kind a ≡ true) × (e ≡ eventFrom s xs kind a)
+  of-kind kind e m q =
+      let r = in-list e .0 m in
+      let same : r .0 ≡ kind = same-kind (r .0) kind (sym (ap (λ v. v .kind) (r .4) ∙ kind-is (r .0) (r .1)) ∙ q) in
+      (r .1, rw same at (r .3), rw same at (r .4))
+
+  -- ---- in order
 
   -- of one start, by kind
   kind-earlier : (x y : Kind) (k : ℕ) (d e : Event)

@@ -3,15 +3,14 @@
 -- sags at each half-cycle lies in one of them. Stated over any test, then of any half-cycles, of a recording and of its list.
 -- Assumes nothing.
 use Prim.Native.Nat.{ℕ, zero, suc, _+_, _-_, _≤_, _<_}
-use mathlib.Core.Path.{_≡_, refl, sym, ap, _∙_}
+use mathlib.Core.Path.{_≡_, refl, ap, _∙_}
 use mathlib.Core.Bool.{Bool, true, false, not}
 use mathlib.Core.List.{List, List·Memᴰ}
 use mathlib.Core.Logic.{⊎-elim}
 use native.Mathlib.Nat.{eq-or-lt-of-le}
 use native.Mathlib.Omega.{arith}
-use borrow.Author.Tests.{eqb-true}
 use lib.IntN.{ℤ}
-use Rattle.rules.specs.Bounded.{before, firstNot}
+use Rattle.rules.specs.Bounded.{firstNot}
 use Rattle.rules.specs.Recorder.{settingsGood}
 use Rattle.rules.specs.Halves.{halfAt, halvesOf}
 use Rattle.rules.specs.Events.{inEvent, isRun, starts, endOf}
@@ -22,14 +21,13 @@ use Rattle.rules.specs.declared.Settings.{Settings}
 use Rattle.rules.specs.declared.Sums.{Sums}
 use Rattle.rules.specs.declared.Half.{Half}
 use Rattle.rules.specs.declared.Half.the-variants.{Unknown}
-use Rattle.rules.specs.declared.Kind.{Kind}
-use Rattle.rules.specs.declared.Kind.the-variants.{Sag, Interruption, Swell}
+use Rattle.rules.specs.declared.Kind.the-variants.{Sag, Interruption}
 use Rattle.rules.specs.declared.Event.{Event}
-use Rattle.rules.proofs.Booleans.{both, and-true, not-both, cases}
+use Rattle.rules.proofs.Booleans.{and-true, not-both, cases}
 use Rattle.rules.proofs.Channels.{percent-rises, in-by-the-one-before, inside-where-it-begins}
 use Rattle.rules.proofs.Choices.{lower}
 use Rattle.rules.proofs.Longest.{isStart, first-low, within-bound, walk-stops, run-of-start, runs-apart, in-past, event-run, run-starts, start-high, half-past}
-use Rattle.rules.proofs.Order.{in-list}
+use Rattle.rules.proofs.Order.{in-list, kind-is, start-is, end-is, of-kind}
 use Rattle.rules.proofs.Ranges.{good}
 
 -- ---- a half-cycle of an interruption begins a sag
@@ -141,43 +139,13 @@ module _ (s : Settings) (xs : List ℤ) (good-settings : settingsGood s ≡ true
 
   -- ---- and so in its list
 
-  kind-is : (kind : Kind) (a : ℕ) → eventFrom s xs kind a .kind ≡ kindNumber kind
-  unfolding eventFrom
-  kind-is kind a = refl
-
-  start-is : (kind : Kind) (a : ℕ) → eventFrom s xs kind a .start ≡ a
-  unfolding eventFrom
-  start-is kind a = refl
-
-  end-is : (kind : Kind) (a : ℕ) → eventFrom s xs kind a .end ≡ endOf s h n kind a
-  unfolding eventFrom
-  end-is kind a = refl
-
-  same-kind : (x y : Kind) → kindNumber x ≡ kindNumber y → x ≡ y
-  same-kind Sag Sag e = refl
-  same-kind Sag Interruption e = absurd (omega arith)
-  same-kind Sag Swell e = absurd (omega arith)
-  same-kind Interruption Sag e = absurd (omega arith)
-  same-kind Interruption Interruption e = refl
-  same-kind Interruption Swell e = absurd (omega arith)
-  same-kind Swell Sag e = absurd (omega arith)
-  same-kind Swell Interruption e = absurd (omega arith)
-  same-kind Swell Swell e = refl
-
-  -- an event of the list with a kind's number is that kind's, from where it starts
-  of-kind : (kind : Kind) (e : Event) → List·Memᴰ e (eventsOf s xs) → e .kind ≡ kindNumber kind → (a : ℕ) × (starts s h kind a ≡ true) × (e ≡ eventFrom s xs kind a)
-  of-kind kind e m q =
-      let r = in-list s xs e .0 m in
-      let same : r .0 ≡ kind = same-kind (r .0) kind (sym (ap (λ v. v .kind) (r .4) ∙ kind-is (r .0) (r .1)) ∙ q) in
-      (r .1, rw same at (r .3), rw same at (r .4))
-
   -- THE LAW: to each interruption of a recording's list the list has exactly one sag that starts no later and ends no earlier
   pub listed-in-one-sag : (e : Event) → List·Memᴰ e (eventsOf s xs) → e .kind ≡ kindNumber Interruption → ExactlyOne (SagOver s xs e)
   listed-in-one-sag e m q =
-      let i = of-kind Interruption e m q in
+      let i = of-kind s xs Interruption e m q in
       let a = i .0 in
-      let starts-at : e .start ≡ a = ap (λ v. v .start) (i .2) ∙ start-is Interruption a in
-      let ends-at : e .end ≡ endOf s h n Interruption a = ap (λ v. v .end) (i .2) ∙ end-is Interruption a in
+      let starts-at : e .start ≡ a = ap (λ v. v .start) (i .2) ∙ start-is s xs Interruption a in
+      let ends-at : e .end ≡ endOf s h n Interruption a = ap (λ v. v .end) (i .2) ∙ end-is s xs Interruption a in
       let o = in-one-sag s good-settings h n (half-past s xs) a (i .1) in
       let k = o .one in
       record {
@@ -187,19 +155,19 @@ module _ (s : Settings) (xs : List ℤ) (good-settings : settingsGood s ≡ true
               listed =
                   in-list s xs (eventFrom s xs Sag k) .1
                   (Sag, k, start-high s h n (half-past s xs) Sag k (o .has .one-starts), o .has .one-starts, refl);
-              sag = kind-is Sag k;
-              by-then = omega (arith, start-is Sag k, starts-at, o .has .by-then);
-              to-the-end = omega (arith, end-is Sag k, ends-at, o .has .to-the-end);
+              sag = kind-is s xs Sag k;
+              by-then = omega (arith, start-is s xs Sag k, starts-at, o .has .by-then);
+              to-the-end = omega (arith, end-is s xs Sag k, ends-at, o .has .to-the-end);
             };
         only =
             λ g v.
-            let j = of-kind Sag g (v .listed) (v .sag) in
+            let j = of-kind s xs Sag g (v .listed) (v .sag) in
             let there : j .0 ≡ k =
             o .only (j .0)
             record {
               one-starts = j .1;
-              by-then = omega (arith, v .by-then, starts-at, ap (λ w. w .start) (j .2) ∙ start-is Sag (j .0));
-              to-the-end = omega (arith, v .to-the-end, ends-at, ap (λ w. w .end) (j .2) ∙ end-is Sag (j .0));
+              by-then = omega (arith, v .by-then, starts-at, ap (λ w. w .start) (j .2) ∙ start-is s xs Sag (j .0));
+              to-the-end = omega (arith, v .to-the-end, ends-at, ap (λ w. w .end) (j .2) ∙ end-is s xs Sag (j .0));
             } in
             j .2 ∙ ap (eventFrom s xs Sag) there;
       }

@@ -2,12 +2,11 @@
 -- Assumes nothing.
 use Prim.Native.Nat.{ℕ, zero, suc, _+_, _≤_}
 use mathlib.Core.Path.{_≡_, refl, ap, _∙_}
-use mathlib.Core.Bool.{Bool, true, false, not, _&&_, _||_, cond, false≢true}
+use mathlib.Core.Bool.{Bool, true, false, not, _&&_, cond}
 use mathlib.Core.Logic.{⊎-elim}
 use native.Mathlib.Omega.{arith}
-use borrow.Author.Tests.{le-ltb, lt-ltb, not-true}
-use lib.Dec.{ltb}
-use Rattle.rules.specs.Bounded.{before, bit, sum, all}
+use borrow.Author.Tests.{not-true}
+use Rattle.rules.specs.Bounded.{before, bit, sum}
 use Rattle.rules.specs.Halves.{known}
 use Rattle.rules.specs.Events.{inEvent, starts, endOf, three}
 use Rattle.rules.specs.Site.{inAny, isHealthy, isDisturbed, isUnknown}
