@@ -113,11 +113,13 @@ fn kept_since(folder: &Folder) {
 fn a_file_of_version_1_is_read_as_it_was_meant_and_left() {
     let folder = with_k6("site-version-1");
     kept_since(&folder);
-    let asked: [&[&str]; 4] = [
+    let asked: [&[&str]; 6] = [
         &["show", "SITE"],
         &["show", "SITE", "--json"],
         &["show", "SITE", "--csv"],
         &["list", "k.csv", "--site", "SITE"],
+        &["explain", "k.csv", "--site", "SITE"],
+        &["check", "k.csv", "--site", "SITE"],
     ];
     for args in asked {
         let of = |site: &str| {
@@ -151,6 +153,18 @@ fn the_next_add_writes_a_file_of_version_1_in_this_one() {
     assert_eq!(numbers(&folder.read("x.site")), wanted);
 }
 
+/// Up to the interruptions, of which there is one, the number that went may be anything: the rest is what it was.
+#[test]
+fn what_version_1_had_besides_goes_whatever_it_was() {
+    let folder = with_k6("site-version-1-besides");
+    kept_since(&folder);
+    folder.write("x.site", VERSION_1.replace("stray 0", "stray 1"));
+    for site in ["x.site", "y.site"] {
+        folder.accepted(&["add", site, "k.csv"]);
+    }
+    assert_eq!(folder.read("x.site"), folder.read("y.site"));
+}
+
 /// An earlier file is held to its own shape, and what breaks it is told and left.
 #[test]
 fn a_file_of_version_1_is_held_to_its_shape() {
@@ -173,9 +187,6 @@ fn a_file_of_version_1_is_held_to_its_shape() {
         folder.write("x.site", &VERSION_1[..length]);
         assert_eq!(folder.run(&["show", "x.site"]).status, 2, "{length}");
     }
-    // At most the interruptions, of which there is one.
-    folder.write("x.site", VERSION_1.replace("stray 0", "stray 1"));
-    folder.accepted(&["show", "x.site"]);
     for unsound in [VERSION_1.replace("stray 0", "stray 2"), VERSION_1.replace("swells 0", "swells 6")] {
         folder.write("x.site", &unsound);
         folder.refused(&["show", "x.site"], 9, 0);

@@ -1,5 +1,5 @@
 //! The gate's comparison of the proved library with the second program, and what it stands on: the linear form agrees with
-//! the naive one, and the drawn cases reach every corner of the rules.
+//! the naive one, and the drawn cases reach every corner of the rules. On the same cases: each interruption in one sag.
 use oracle::compare::{draw, of_the_oracle, run, Case, Drawn, Report, Until};
 use oracle::{plain, recording, settings, site, Event, Settings};
 use std::collections::BTreeSet;

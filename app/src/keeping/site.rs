@@ -1,6 +1,6 @@
 //! A site's file: a version line, then the table's 56 numbers by name, one to a line. It is replaced as a whole, so that
 //! a kill at any moment leaves the old or the new table, and a file that makes no sense is never written over. A file of
-//! the version before is read as it was meant, and the next `add` writes it in this one.
+//! version 1 is read as it was meant, and the next `add` writes it in this version.
 use super::beside::{self, Beside};
 use crate::{
     answered::table,
@@ -18,9 +18,9 @@ use std::{
 
 const VERSION: &str = "burrcradle site 2";
 
-/// The version before. It had one number more: interruptions outside any sag, of which there are none.
-const VERSION_BEFORE: &str = "burrcradle site 1";
-const LEFT_OUT: &str = "stray";
+/// Version 1 had one number more, after the swells: interruptions outside any sag, of which there are none.
+const VERSION_1: &str = "burrcradle site 1";
+const VERSION_1_ONLY: &str = "stray";
 
 /// The numbers of a file by name, in the order of its version.
 type Numbers = Vec<(String, u64)>;
@@ -37,10 +37,10 @@ pub fn load(path: &Path) -> Result<Table, Failure> {
     })
 }
 
-/// The table that a file's numbers are. What the version before had besides goes, and is held to what it had to be: no more
-/// than the interruptions, or the table was unsound.
+/// The table that a file's numbers are. What version 1 had besides goes, and is held to what it had to be: no more than the
+/// interruptions, or the table was unsound.
 fn today(mut numbers: Numbers) -> Result<Table, Refused> {
-    let left_out = numbers.iter().position(|(name, _)| name == LEFT_OUT).map(|at| numbers.remove(at).1);
+    let left_out = numbers.iter().position(|(name, _)| name == VERSION_1_ONLY).map(|at| numbers.remove(at).1);
     let mut table = [0; TABLE];
     table.iter_mut().zip(numbers).for_each(|(word, (_, number))| *word = number);
     match left_out {
@@ -62,13 +62,16 @@ fn names(version: &str) -> Option<Vec<String>> {
     let mut names = table::names();
     match version {
         VERSION => {}
-        VERSION_BEFORE => names.insert(names.len() - 1, LEFT_OUT.into()),
+        VERSION_1 => {
+            let swells = names.iter().position(|name| name == "swells")?;
+            names.insert(swells + 1, VERSION_1_ONLY.into());
+        }
         _ => return None,
     }
     Some(names)
 }
 
-/// Reads what `render` writes, or wrote in the version before, and nothing else: a value in other digits or a line cut
+/// Reads what `render` writes, or wrote in version 1, and nothing else: a value in other digits or a line cut
 /// short is an error.
 fn parse(bytes: &[u8]) -> Result<Numbers, String> {
     let text = String::from_utf8_lossy(bytes);
@@ -82,7 +85,7 @@ fn parse(bytes: &[u8]) -> Result<Numbers, String> {
     };
     let (_, version) = next("the version line")?;
     let Some(names) = names(&version) else {
-        return Err(format!("line 1: {version:?} where {VERSION:?} is wanted: no site's file, or of another version"));
+        return Err(format!("line 1: {version:?} where {VERSION:?} or {VERSION_1:?} is wanted: no site's file, or of another version"));
     };
     let mut numbers = Numbers::new();
     for name in names {

@@ -100,7 +100,7 @@ pub record Contains (s : Settings) (h : ℕ → Half) (n : ℕ) (kind : Kind) (a
   pub by-then : k ≤ a
   pub to-the-end : b ≤ endOf s h n kind k
 
--- g is a sag of the recording's list, starts at or before event e, and ends at or after it
+-- g is a sag of the recording's list that starts at or before e's start and ends at or after e's end
 pub record SagOver (s : Settings) (xs : List ℤ) (e g : Event) : Type 0 where
   pub listed : List·Memᴰ g (eventsOf s xs)
   pub sag : g .kind ≡ kindNumber Sag
@@ -156,7 +156,7 @@ sumOver g (xs ∷ rs) = g xs + sumOver g rs
 abbrev pub placedIn : Settings → List ℤ → ℕ → ℕ
 placedIn s xs i = let h = halfAt s xs in let n = halvesOf s xs in count (λ k. isPlaced s h n k && eqb (sagCell s h n k) i) n
 
--- what a table that is not unsound is, part by part: each of the rules' six conditions turned round, the
+-- what a table that is not unsound is, part by part: each condition of `isUnsound` turned round, the
 -- one on event kinds as three
 pub record Sound (t : Table) : Type 0 where
   pub good-settings : settingsGood (t .settings) ≡ true

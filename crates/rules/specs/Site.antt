@@ -152,7 +152,7 @@ abbrev pub mostHalves : ℕ
 mostHalves = 4000000
 
 -- settings bad; total above 4,000,000; the three half-cycle counts don't sum to it; cells and unplaced don't sum to sags; any
--- event kind above total; shortfall above 3 x N x R x R x total
+-- event kind above total; shortfall above 3 x N x R x R x total. No. 7 of document 02 has taken one condition out
 unfoldable pub isUnsound : Table → Bool
 isUnsound t =
     not (settingsGood (t .settings)) || ltb mostHalves (t .total)

@@ -1,4 +1,4 @@
--- `survey::land` meets its contract. What a sag's end adds, each by its callee.
+-- `survey::land` meets its contract. Each number that a sag's end adds to, by its callee.
 -- Assumes nothing.
 use native.Mathlib.Omega.{arith}
 use borrow.Author.Needs.{needs}
