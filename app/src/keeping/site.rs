@@ -85,7 +85,9 @@ fn parse(bytes: &[u8]) -> Result<Numbers, String> {
     };
     let (_, version) = next("the version line")?;
     let Some(names) = names(&version) else {
-        return Err(format!("line 1: {version:?} where {VERSION:?} or {VERSION_1:?} is wanted: no site's file, or of another version"));
+        return Err(format!(
+            "line 1: {version:?} where {VERSION:?} or {VERSION_1:?} is wanted: no site's file, or of another version"
+        ));
     };
     let mut numbers = Numbers::new();
     for name in names {
