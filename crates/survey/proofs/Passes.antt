@@ -8,9 +8,10 @@ use native.Mathlib.Numerals.{add-one}
 use native.Mathlib.Omega.{arith}
 use lib.IntN.{ℤ}
 use lib.ListN.{replicate}
+use Rattle.rules.specs.Bounded.{before}
 use Rattle.rules.specs.Recorder.{settingsGood}
 use Rattle.rules.specs.Halves.{known, halfAt, halvesOf}
-use Rattle.rules.specs.Events.{starts}
+use Rattle.rules.specs.Events.{inEvent, starts}
 use Rattle.rules.specs.Site.{cells, inAny, isHealthy, isDisturbed, isUnknown, empty, grown}
 use Rattle.rules.specs.Refusals.{recordingCheck}
 use Rattle.rules.specs.Demands.{Good, AcceptedRecording}
@@ -25,14 +26,15 @@ use Rattle.rules.specs.declared.Table.{Table}
 use Rattle.rules.specs.declared.Taken.the-variants.{Accepted}
 use Rattle.kinds.specs.declared.Thresholds.{Thresholds}
 use Rattle.kinds.specs.declared.Level.{Level}
+use Rattle.kinds.specs.declared.Open.{Open}
 use Rattle.survey.specs.declared.Track.{Track}
 use Rattle.survey.specs.declared.Classes.{Classes}
 use Rattle.survey.specs.declared.Starts.{Starts}
 use Rattle.survey.specs.declared.Landed.{Landed}
 use Rattle.survey.specs.declared.Survey.{Survey}
 use Rattle.kinds.specs.Machine.{levelOf, opens, Going, Light}
-use Rattle.survey.specs.Pass.{trackedBy, classedBy, startedBy, landedBy, cellsBy, Landable, Surveying, trackAt, classesAt, startsAt, landed, landedAt, cellsAt, surveyAt, resting, startSurvey}
-use Rattle.kinds.proofs.Machine.{level-known, inside-is, opens-closed}
+use Rattle.survey.specs.Pass.{trackedBy, classedBy, startedBy, landedBy, cellsBy, Landable, Surveying, trackAt, classesAt, startsAt, landed, landedAt, cellsAt, surveyAt, startSurvey}
+use Rattle.kinds.proofs.Machine.{level-known, inside-is}
 use Rattle.kinds.proofs.Limits.{opens-light, level-light, extreme-low}
 use Rattle.survey.proofs.Surveys.{track-next, classes-next, starts-next, lands, landing, landed-at-next}
 use Rattle.survey.proofs.Gains.{cells-next, unplaced-few, cells-few, shortfall-low, unplaced-all, shortfall-all, cells-all}
@@ -68,7 +70,7 @@ module _ (s : Settings) (xs : List ℤ) (good-settings : settingsGood s ≡ true
       (omega (arith, ok .few, count-le (starts s h Sag) k), omega (arith, ok .few, count-le (starts s h Interruption) k), omega (arith, ok .few, count-le (starts s h Swell) k))
 
   -- the test of the code says where a sag lands
-  ends-is : (k : ℕ) → (trackAt s h k .sag .inside && not (trackAt s h (suc k) .sag .inside)) ≡ lands s h n (half-past s xs) Sag k
+  pub ends-is : (k : ℕ) → (trackAt s h k .sag .inside && not (trackAt s h (suc k) .sag .inside)) ≡ lands s h n (half-past s xs) Sag k
   unfolding trackAt
   ends-is k = rw (inside-is s h Sag k, inside-is s h Sag (suc k))
 
@@ -76,16 +78,14 @@ module _ (s : Settings) (xs : List ℤ) (good-settings : settingsGood s ≡ true
   unfolding trackAt
   going-at k l y = landing s h n (half-past s xs) Sag k l y
 
-  pub landable : (k : ℕ) → k ≤ n → Landable s (landedAt s h n k) (trackAt s h k) (trackAt s h (suc k)) k (cellsAt s h n k)
+  pub landable : (k : ℕ) → k ≤ n → Landable s (landedAt s h n k) (lands s h n (half-past s xs) Sag k) (trackAt s h k .sag) k (cellsAt s h n k)
   landable k l =
-      let on : (trackAt s h k .sag .inside && not (trackAt s h (suc k) .sag .inside)) ≡ true → Going s h Sag k (trackAt s h k .sag) =
-      λ e. going-at k l (sym (ends-is k) ∙ e) in
       record {
         placeable =
             record {
               good-settings = good-settings;
-              extreme = λ e. extreme-low s xs g ok Sag k (trackAt s h k .sag) (on e);
-              began = λ e. omega (arith, on e .started);
+              extreme = λ e. extreme-low s xs g ok Sag k (trackAt s h k .sag) (going-at k l e);
+              began = λ e. omega (arith, going-at k l e .started);
               high = omega (arith, ok .few);
               few = λ i. omega (arith, ok .few, cells-few s h n (half-past s xs) k i);
             };
@@ -111,26 +111,26 @@ module _ (s : Settings) (xs : List ℤ) (good-settings : settingsGood s ≡ true
   unfolding surveyAt
   parts k p e = record { track = rw e; classes = rw e; starts-are = rw e; landed = rw e }
 
-  cells-here : (k : ℕ) → k ≤ n → cellsBy s (lands s h n (half-past s xs) Sag k) (trackAt s h k .sag) k (known (h k)) (cellsAt s h n k) ≡ cellsAt s h n (suc k)
+  -- the landings after half-cycle k
+  pub landed-after : (k : ℕ) → k ≤ n → landedBy (landedAt s h n k) (lands s h n (half-past s xs) Sag k) (trackAt s h k .sag) (known (h k)) ≡ landedAt s h n (suc k)
   unfolding trackAt
-  cells-here k l = cells-next s h n (half-past s xs) k l
+  landed-after k l = landed-at-next s h n (half-past s xs) k l
 
   -- the cells after half-cycle k
-  pub cells-after : (k : ℕ) → k ≤ n → (was is : Track) (isKnown : Bool) (cs : List ℕ) → was ≡ trackAt s h k → is ≡ trackAt s h (suc k) → isKnown ≡ known (h k)
-      → cs ≡ cellsAt s h n k → cellsBy s (was .sag .inside && not (is .sag .inside)) (was .sag) k isKnown cs ≡ cellsAt s h n (suc k)
-  cells-after k l was is isKnown cs e f i j = rw (e, f, i, j, ends-is k) (cells-here k l)
+  pub cells-after : (k : ℕ) → k ≤ n → cellsBy s (lands s h n (half-past s xs) Sag k) (trackAt s h k .sag) k (known (h k)) (cellsAt s h n k) ≡ cellsAt s h n (suc k)
+  unfolding trackAt
+  cells-after k l = cells-next s h n (half-past s xs) k l
 
   -- ---- the end
 
-  pub at-end : trackAt s h (suc n) ≡ resting
+  -- half-cycle H does not exist, and ends a sag that is still going on
+  pub last-ends : trackAt s h n .sag .inside ≡ lands s h n (half-past s xs) Sag n
   unfolding trackAt
-  at-end =
-      rw (
-        half-past s xs n (omega arith),
-        opens-closed s h Sag n (in-past s h n (half-past s xs) Sag n (omega arith)),
-        in-past s h n (half-past s xs) Interruption n (omega arith),
-        in-past s h n (half-past s xs) Swell n (omega arith),
-      )
+  last-ends = inside-is s h Sag n ∙ and-not (before (inEvent s h Sag) n) (inEvent s h Sag n) (in-past s h n (half-past s xs) Sag n (omega arith))
+    where
+      and-not : (b c : Bool) → c ≡ false → b ≡ b && not c
+      and-not true c e = rw e
+      and-not false c e = refl
 
   pub at-start : startSurvey ≡ surveyAt s h n 0
   unfolding surveyAt trackAt classesAt startsAt landedAt opens landed
@@ -189,28 +189,31 @@ module _ (s : Settings) (xs : List ℤ) (m : Thresholds) (halves k : ℕ) (p : S
     unfolding trackAt
     any-is = rw (next, inside-is s (halfAt s xs) Sag (suc k))
 
-    pub ask-land : Landable s (p .landed) (p .track) is k cs
-    ask-land = rw (are .landed, are .track, next, v .cells-are) (landable s xs (v .good-settings) (v .accepted) k inside)
+    ends : (p .track .sag .inside && not (is .sag .inside)) ≡ lands s (halfAt s xs) (halvesOf s xs) (half-past s xs) Sag k
+    ends = rw (are .track, next) (ends-is s xs (v .good-settings) (v .accepted) k)
+
+    pub ask-land : Landable s (p .landed) (p .track .sag .inside && not (is .sag .inside)) (p .track .sag) k cs
+    ask-land = rw (ends, are .landed, are .track, v .cells-are) (landable s xs (v .good-settings) (v .accepted) k inside)
 
     pub turn-made : (c : Classes) (b : Starts) (d : Landed) → c ≡ classedBy (p .classes) (l .known) (is .sag .inside || is .interruption || is .swell)
-        → b ≡ startedBy (p .starts) (p .track) is → d ≡ landedBy (p .landed) (p .track) is (l .known)
+        → b ≡ startedBy (p .starts) (p .track) is → d ≡ landedBy (p .landed) (p .track .sag .inside && not (is .sag .inside)) (p .track .sag) (l .known)
         → _≡_ {A = Survey} (record { track = is; classes = c; starts = b; landed = d }) (surveyAt s (halfAt s xs) (halvesOf s xs) (k + 1))
     turn-made c b d e f i =
         survey-next s xs (v .good-settings) (v .accepted) k is c b d next
         (e ∙ rw (known-here, any-is, are .classes) (classes-next s (halfAt s xs) k))
         (f ∙ rw (are .starts-are, are .track, next) (starts-next s (halfAt s xs) k))
-        (i ∙ rw (known-here, are .landed, are .track, next) (landed-at-next s (halfAt s xs) (halvesOf s xs) (half-past s xs) k inside))
+        (i ∙ rw (ends, known-here, are .landed, are .track) (landed-after s xs (v .good-settings) (v .accepted) k inside))
 
     pub turn-cells : (cs′ : List ℕ) → cs′ ≡ cellsBy s (p .track .sag .inside && not (is .sag .inside)) (p .track .sag) k (l .known) cs
         → cs′ ≡ cellsAt s (halfAt s xs) (halvesOf s xs) (k + 1)
     turn-cells cs′ e =
-        rw add-one (e ∙ cells-after s xs (v .good-settings) (v .accepted) k inside (p .track) is (l .known) cs (are .track) next known-here (v .cells-are))
+        rw add-one (e ∙ rw (ends, known-here, are .track, v .cells-are) (cells-after s xs (v .good-settings) (v .accepted) k inside))
 
 -- ---- the last landing: half-cycle H, which does not exist
 
 module _ (s : Settings) (xs : List ℤ) (good-settings : settingsGood s ≡ true) (accepted : recordingCheck s xs ≡ Accepted)
-    (halves k : ℕ) (p : Survey) (cs : List ℕ) (is : Track) (count-is : halves ≡ halvesOf s xs) (done : k ≡ halvesOf s xs)
-    (state : p ≡ surveyAt s (halfAt s xs) (halvesOf s xs) k) (cells-are : cs ≡ cellsAt s (halfAt s xs) (halvesOf s xs) k) (rests : is ≡ resting) where
+    (halves k : ℕ) (p : Survey) (cs : List ℕ) (count-is : halves ≡ halvesOf s xs) (done : k ≡ halvesOf s xs)
+    (state : p ≡ surveyAt s (halfAt s xs) (halvesOf s xs) k) (cells-are : cs ≡ cellsAt s (halfAt s xs) (halvesOf s xs) k) where
   last : p ≡ surveyAt s (halfAt s xs) (halvesOf s xs) (halvesOf s xs)
   last = state ∙ ap (surveyAt s (halfAt s xs) (halvesOf s xs)) done
 
@@ -220,17 +223,21 @@ module _ (s : Settings) (xs : List ℤ) (good-settings : settingsGood s ≡ true
   are-last : Parts s xs good-settings accepted (halvesOf s xs) p
   are-last = parts s xs good-settings accepted (halvesOf s xs) p last
 
-  after : is ≡ trackAt s (halfAt s xs) (suc (halvesOf s xs))
-  after = rests ∙ sym (at-end s xs good-settings accepted)
+  ends-last : p .track .sag .inside ≡ lands s (halfAt s xs) (halvesOf s xs) (half-past s xs) Sag (halvesOf s xs)
+  ends-last = rw (are-last .track) (last-ends s xs good-settings accepted)
 
   not-known : false ≡ known (halfAt s xs (halvesOf s xs))
   not-known = sym (rw (half-past s xs (halvesOf s xs) (omega arith)))
 
-  pub ask-last : Landable s (p .landed) (p .track) is halves cs
-  ask-last = rw (are-last .landed, are-last .track, after, count-is, last-cells) (landable s xs good-settings accepted (halvesOf s xs) (omega arith))
+  pub ask-last : Landable s (p .landed) (p .track .sag .inside) (p .track .sag) halves cs
+  ask-last = go (p .track .sag .inside) (p .track .sag) ends-last (ap (λ (t : Track). t .sag) (are-last .track))
+    where
+      go : (ends : Bool) (o : Open) → ends ≡ lands s (halfAt s xs) (halvesOf s xs) (half-past s xs) Sag (halvesOf s xs)
+          → o ≡ trackAt s (halfAt s xs) (halvesOf s xs) .sag → Landable s (p .landed) ends o halves cs
+      go ends o e f = rw (e, f, are-last .landed, count-is, last-cells) (landable s xs good-settings accepted (halvesOf s xs) (omega arith))
 
-  pub table-made : (d : Landed) (cs′ : List ℕ) → d ≡ landedBy (p .landed) (p .track) is false
-      → cs′ ≡ cellsBy s (p .track .sag .inside && not (is .sag .inside)) (p .track .sag) halves false cs
+  pub table-made : (d : Landed) (cs′ : List ℕ) → d ≡ landedBy (p .landed) (p .track .sag .inside) (p .track .sag) false
+      → cs′ ≡ cellsBy s (p .track .sag .inside) (p .track .sag) halves false cs
       → _≡_ {A = Table} (record {
         settings = s;
         total = halves;
@@ -246,5 +253,5 @@ module _ (s : Settings) (xs : List ℤ) (good-settings : settingsGood s ≡ true
       }) (grown (empty s) xs)
   table-made d cs′ e f =
       table-is s xs good-settings accepted (p .classes) (p .starts) d cs′ halves count-is (are-last .classes) (are-last .starts-are)
-      (e ∙ rw (not-known, are-last .landed, are-last .track, after) (landed-at-next s (halfAt s xs) (halvesOf s xs) (half-past s xs) (halvesOf s xs) (omega arith)))
-      (f ∙ rw count-is (cells-after s xs good-settings accepted (halvesOf s xs) (omega arith) (p .track) is false cs (are-last .track) after not-known last-cells))
+      (e ∙ rw (ends-last, not-known, are-last .landed, are-last .track) (landed-after s xs good-settings accepted (halvesOf s xs) (omega arith)))
+      (f ∙ rw (ends-last, count-is, not-known, are-last .track, last-cells) (cells-after s xs good-settings accepted (halvesOf s xs) (omega arith)))

@@ -119,14 +119,12 @@ module _ (s : Settings) (h : ℕ → Half) where
     short-is : (k : ℕ) → k ≤ n → lands Sag k ≡ true → three (opens s h Sag k .short) ≡ shortfallFrom s h n (opens s h Sag k .start)
     short-is k high y = rw (landing Sag k high y .short, lands-at Sag k high y)
 
-    pub landed-at-next : (k : ℕ) → k ≤ n → landedBy (landedAt s h n k) (trackAt s h k) (trackAt s h (suc k)) (known (h k)) ≡ landedAt s h n (suc k)
-    unfolding landedAt trackAt landed
+    pub landed-at-next : (k : ℕ) → k ≤ n → landedBy (landedAt s h n k) (lands Sag k) (opens s h Sag k) (known (h k)) ≡ landedAt s h n (suc k)
+    unfolding landedAt landed
     landed-at-next k high =
-        let ends : (opens s h Sag k .inside && not (opens s h Sag (suc k) .inside)) ≡ lands Sag k = rw (inside-is s h Sag k, inside-is s h Sag (suc k)) in
         let o = opens s h Sag k in
-        rw ends
-        (same-landed
+        same-landed
         (ap (λ (x : ℕ). landed s h Sag (λ a. bit (not (seenBoth s h n a))) k + x)
         (bit-and (lands Sag k) (not (o .seen && known (h k)))
         ∙ where-true (lands Sag k) _ _ (λ y. ap (λ (b : Bool). bit (not b)) (seen-is k high y))))
-        (ap (λ (x : ℕ). landed s h Sag (shortfallFrom s h n) k + x) (where-true (lands Sag k) _ _ (λ y. short-is k high y))))
+        (ap (λ (x : ℕ). landed s h Sag (shortfallFrom s h n) k + x) (where-true (lands Sag k) _ _ (λ y. short-is k high y)))

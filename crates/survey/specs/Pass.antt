@@ -55,12 +55,11 @@ startedBy n was is =
     }
 
 -- what the end of a sag adds
-abbrev pub landedBy : Landed → Track → Track → Bool → Landed
-landedBy n was is isKnown =
-    let ends = was .sag .inside && not (is .sag .inside) in
+abbrev pub landedBy : Landed → Bool → Open → Bool → Landed
+landedBy n ends o isKnown =
     record {
-      unplaced = n .unplaced + bit (ends && not (was .sag .seen && isKnown));
-      shortfall = n .shortfall + cond ends (three (was .sag .short)) 0;
+      unplaced = n .unplaced + bit (ends && not (o .seen && isKnown));
+      shortfall = n .shortfall + cond ends (three (o .short)) 0;
     }
 
 -- the cell of a sag with both ends seen has one more
@@ -77,9 +76,9 @@ pub record Placeable (s : Settings) (ends : Bool) (o : Open) (end : ℕ) (cs : L
   pub high : end ≤ 100000
   pub few : (i : ℕ) → getD cs i 0 ≤ 4000000
 
-pub record Landable (s : Settings) (n : Landed) (was is : Track) (k : ℕ) (cs : List ℕ) : Type 0 where
-  pub placeable : Placeable s (was .sag .inside && not (is .sag .inside)) (was .sag) k cs
-  pub light : Light (was .sag .short)
+pub record Landable (s : Settings) (n : Landed) (ends : Bool) (o : Open) (k : ℕ) (cs : List ℕ) : Type 0 where
+  pub placeable : Placeable s ends o k cs
+  pub light : Light (o .short)
   pub unplaced-few : n .unplaced ≤ 4000000
   pub shortfall-low : n .shortfall ≤ 3000000000000000000
 
@@ -144,13 +143,10 @@ surveyAt s h n k =
     }
 
 -- nothing goes on, and nothing is counted
-abbrev pub resting : Track
-resting = record { known = false; sag = closed; interruption = false; swell = false }
-
 abbrev pub startSurvey : Survey
 startSurvey =
     record {
-      track = resting;
+      track = record { known = false; sag = closed; interruption = false; swell = false };
       classes = record { healthy = 0; disturbed = 0; unknown = 0 };
       starts = record { sags = 0; interruptions = 0; swells = 0 };
       landed = record { unplaced = 0; shortfall = 0 };

@@ -1,16 +1,16 @@
 // The survey of a recording: one pass over its half-cycles that counts all that a site table holds.
 ghost use mathlib.Core.Path.{_≡_};
-ghost use mathlib.Core.Bool.{true, false, not, _&&_, cond};
+ghost use mathlib.Core.Bool.{true, cond};
 ghost use Prim.Native.Nat.{_+_, _≤_};
 ghost use Rattle.rules.specs.Bounded.{bit};
 ghost use Rattle.rules.specs.Recorder.{settingsGood};
 ghost use Rattle.rules.specs.Halves.{halfAt, halvesOf};
 ghost use Rattle.rules.specs.Events.{three};
-ghost use Rattle.rules.specs.Site.{total, empty, grown};
+ghost use Rattle.rules.specs.Site.{empty, grown};
 ghost use Rattle.rules.specs.Refusals.{recordingCheck};
 ghost use Rattle.rules.specs.declared.Taken.the-variants.{Accepted};
 ghost use Rattle.kinds.specs.Machine.{Light};
-ghost use Rattle.survey.specs.Pass.{trackedBy, classedBy, startedBy, landedBy, cellsBy, Placeable, Landable, Surveying, surveyAt, cellsAt, resting, startSurvey};
+ghost use Rattle.survey.specs.Pass.{trackedBy, classedBy, startedBy, landedBy, cellsBy, Placeable, Landable, Surveying, surveyAt, cellsAt, startSurvey};
 use checks::count_halves;
 use halves::half_at;
 use kinds::Level;
@@ -138,24 +138,21 @@ fn shortfall_by(ends: bool, v: Sums) -> u64
     0
 }
 
-// What half-cycle k, known or not, ends.
+// What the sag adds that half-cycle k, known or not, ends; nothing where it ends none.
 fn land(
     s: Settings,
     n: Landed,
-    was: Track,
-    is: Track,
+    ends: bool,
+    o: Open,
     k: u64,
     known: bool,
     cells: &mut [u64; 40],
 ) -> Landed
-    requires { ⌜ Landable s n was is k (now cells) ⌝ }
-    ensures { λ r. ⌜ r ≡ landedBy n was is known ⌝ }
-    ensures { λ r. ⌜ now (cells .exit) ≡ cellsBy s (was .sag .inside && not (is .sag .inside)) (was .sag) k known (now (cells .entry)) ⌝ }
+    requires { ⌜ Landable s n ends o k (now cells) ⌝ }
+    ensures { λ r. ⌜ r ≡ landedBy n ends o known ⌝ }
+    ensures { λ r. ⌜ now (cells .exit) ≡ cellsBy s ends o k known (now (cells .entry)) ⌝ }
 {
-    let o = was.sag;
-    let next = is.sag;
     let short = o.short;
-    let ends = o.inside & !next.inside;
     place(s, ends, o, k, known, cells);
     Landed {
         unplaced: bump(n.unplaced, ends & !(o.seen & known)),
@@ -181,11 +178,13 @@ fn survey_turn(
     let l = level_at(m.full, marks.from, half_at(s, halves, samples, k));
     let was = p.track;
     let is = follow(m, k, was, l);
+    let open = was.sag;
     let sag = is.sag;
     let any = sag.inside | is.interruption | is.swell;
     let classes = classify(p.classes, l.known, any);
     let starts = count_starts(p.starts, was, is);
-    let landed = land(s, p.landed, was, is, k, l.known, cells);
+    let ends = open.inside & !sag.inside;
+    let landed = land(s, p.landed, ends, open, k, l.known, cells);
     Survey {
         track: is,
         classes,
@@ -194,23 +193,17 @@ fn survey_turn(
     }
 }
 
-// Nothing goes on: before half-cycle 0, and after the last.
-fn at_rest() -> Track
-    ensures { λ r. ⌜ r ≡ resting ⌝ }
-{
-    Track {
-        known: false,
-        sag: none(),
-        interruption: false,
-        swell: false,
-    }
-}
-
+// Before half-cycle 0 nothing goes on, and nothing is counted.
 fn start_survey() -> Survey
     ensures { λ r. ⌜ r ≡ startSurvey ⌝ }
 {
     Survey {
-        track: at_rest(),
+        track: Track {
+            known: false,
+            sag: none(),
+            interruption: false,
+            swell: false,
+        },
         classes: Classes {
             healthy: 0,
             disturbed: 0,
@@ -228,7 +221,7 @@ fn start_survey() -> Survey
     }
 }
 
-// The table of one accepted recording. Half-cycle H, which does not exist, ends what is still going on.
+// The table of one accepted recording. Half-cycle H, which does not exist, ends a sag that is still going on.
 pub fn table_of(s: Settings, samples: &[i32]) -> Table
     requires { ⌜ (settingsGood s ≡ true) × (recordingCheck s (now samples) ≡ Accepted) ⌝ }
     ensures { λ r. ⌜ r ≡ grown (empty s) (now (samples .entry)) ⌝ }
@@ -242,7 +235,9 @@ pub fn table_of(s: Settings, samples: &[i32]) -> Table
         p = survey_turn(s, m, halves, samples, p, k, &mut cells);
         k += 1;
     }
-    let landed = land(s, p.landed, p.track, at_rest(), halves, false, &mut cells);
+    let track = p.track;
+    let open = track.sag;
+    let landed = land(s, p.landed, open.inside, open, halves, false, &mut cells);
     let classes = p.classes;
     let starts = p.starts;
     Table {

@@ -14,8 +14,8 @@ bump-requires c κs = search needs
 shortfall-by-requires : tie.Need-shortfall-by-requires
 shortfall-by-requires c κs = search needs
 
-add-t19 : tie.Need-add-t19
-add-t19 c = omega (arith, c .before .before .before .before .before .before .before .before .before .before .before .pre .shortfall-low, c .before .shortfall-by .ensures .1)
+add-t16 : tie.Need-add-t16
+add-t16 c = omega (arith, c .before .before .before .before .before .before .before .pre .shortfall-low, c .before .shortfall-by .ensures .1)
 
 returns : tie.Need-returns
 returns c =
@@ -24,4 +24,4 @@ returns c =
 pub land-spec : {M : Type 1} → statement M
 land-spec =
     tie.close
-    (tie.spec place-requires bump-requires shortfall-by-requires add-t19 returns)
+    (tie.spec place-requires bump-requires shortfall-by-requires add-t16 returns)

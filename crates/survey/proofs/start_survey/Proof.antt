@@ -4,11 +4,11 @@ use borrow.Author.Needs.{needs}
 use Rattle.survey.proofs.start_survey.Statement.{statement}
 use Rattle.survey.proofs.start_survey.Tie as tie
 
-at-rest-requires : tie.Need-at-rest-requires
-at-rest-requires c κs = search needs
+none-requires : tie.Need-none-requires
+none-requires c κs = search needs
 
 returns : tie.Need-returns
-returns c = rw (c .at-rest .ensures)
+returns c = rw (c .none .ensures)
 
 pub start-survey-spec : {M : Type 1} → statement M
-start-survey-spec = tie.close (tie.spec at-rest-requires returns)
+start-survey-spec = tie.close (tie.spec none-requires returns)

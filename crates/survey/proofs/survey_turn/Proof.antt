@@ -36,22 +36,22 @@ follow-requires : tie.Need-follow-requires
 follow-requires c κs = let l = c .before in ask-follow _ _ _ _ _ _ _ (start l .pre) _ (is-level l)
 
 classify-requires : tie.Need-classify-requires
-classify-requires c κs = let l = level (c .before .before .before .before) in ask-classify _ _ _ _ _ _ _ (start l .pre) _ (is-level l)
+classify-requires c κs = let l = level (c .before .before .before .before .before) in ask-classify _ _ _ _ _ _ _ (start l .pre) _ (is-level l)
 
 count-starts-requires : tie.Need-count-starts-requires
-count-starts-requires c κs = let l = level (c .before .before .before .before .before) in ask-starts _ _ _ _ _ _ _ (start l .pre) _ (is-level l)
+count-starts-requires c κs = let l = level (c .before .before .before .before .before .before) in ask-starts _ _ _ _ _ _ _ (start l .pre) _ (is-level l)
 
 land-requires : tie.Need-land-requires
 land-requires c κs =
-    let followed = c .before .before .before .before .before .before .before in
+    let followed = c .before .before .before .before .before .before .before .before .before .before in
     let l = level followed in
     ask-land _ _ _ _ _ _ _ (start l .pre) _ (is-level l) _ (followed .follow .ensures)
 
 returns : tie.Need-returns
 returns c =
-    let followed = c .before .before .before .before .before .before .before .before in
+    let followed = c .before .before .before .before .before .before .before .before .before .before .before in
     let l = level followed in (
-      turn-made _ _ _ _ _ _ _ (start l .pre) _ (is-level l) _ (followed .follow .ensures) _ _ _ (c .before .before .before .classify .ensures) (c .before .before .count-starts .ensures) (c .land .ensures .0),
+      turn-made _ _ _ _ _ _ _ (start l .pre) _ (is-level l) _ (followed .follow .ensures) _ _ _ (c .before .before .before .before .before .classify .ensures) (c .before .before .before .before .count-starts .ensures) (c .land .ensures .0),
       turn-cells _ _ _ _ _ _ _ (start l .pre) _ (is-level l) _ (followed .follow .ensures) _ (c .land .ensures .1),
     )
 

@@ -57,20 +57,17 @@ loop-less c = search needs
 loop-again : tie.Need-loop-again Inv-loop μ-loop
 loop-again c = (omega arith, c .survey-turn .ensures .0, c .survey-turn .ensures .1)
 
-at-rest-requires : tie.Need-at-rest-requires Inv-loop μ-loop
-at-rest-requires c κs = search needs
-
 land-requires : tie.Need-land-requires Inv-loop μ-loop
 land-requires c κs =
-    let v = c .before .before .before .before .before .before .before .pre in
-    let l = c .before .before .before .loop in
-    ask-last _ _ (v .0) (v .1) _ _ _ _ _ (c .before .before .before .before .before .before .count-halves .ensures) (ended (c .before .before)) (l .inv .1) (l .inv .2) (c .before .at-rest .ensures)
+    let v = c .before .before .before .before .before .before .before .before .pre in
+    let l = c .before .before .before .before .loop in
+    ask-last _ _ (v .0) (v .1) _ _ _ _ (c .before .before .before .before .before .before .before .count-halves .ensures) (ended (c .before .before .before)) (l .inv .1) (l .inv .2)
 
 returns : tie.Need-returns Inv-loop μ-loop
 returns c =
-    let v = c .before .before .before .before .before .before .before .before .before .before .pre in
-    let l = c .before .before .before .before .before .before .loop in
-    table-made _ _ (v .0) (v .1) _ _ _ _ _ (c .before .before .before .before .before .before .before .before .before .count-halves .ensures) (ended (c .before .before .before .before .before)) (l .inv .1) (l .inv .2) (c .before .before .before .before .at-rest .ensures) _ _ (c .before .before .land .ensures .0) (c .before .before .land .ensures .1)
+    let v = c .before .before .before .before .before .before .before .before .before .before .before .pre in
+    let l = c .before .before .before .before .before .before .before .loop in
+    table-made _ _ (v .0) (v .1) _ _ _ _ (c .before .before .before .before .before .before .before .before .before .before .count-halves .ensures) (ended (c .before .before .before .before .before .before)) (l .inv .1) (l .inv .2) _ _ (c .before .before .land .ensures .0) (c .before .before .land .ensures .1)
 
 pub table-of-spec : {M : Type 1} → statement M
 table-of-spec =
@@ -86,6 +83,5 @@ table-of-spec =
     add-k
     loop-less
     loop-again
-    at-rest-requires
     land-requires
     returns)
