@@ -1,7 +1,10 @@
--- The tests of one signed sample, and what the flags over a whole run say of its first bad one. Assumes nothing.
+-- The tests of one signed sample, what the flags over a whole run say of its first bad one, and the two parts of the checks. Assumes
+-- nothing.
+use Prim.Native.Nat.{ℕ, zero, suc, _-_, _≤_}
 use mathlib.Core.Path.{_≡_, refl, sym, _∙_}
 use mathlib.Core.Bool.{Bool, true, false, not, _&&_}
 use mathlib.Core.List.{List}
+use native.Mathlib.Numerals.{add-one}
 use native.Mathlib.Omega.{arith}
 use borrow.Author.Tests.{eq-eqb, ne-eqb, eqb-true, eqb-false}
 use lib.Dec.{leb, ltb, eqb, leb·suc-suc}
@@ -11,8 +14,10 @@ use lib.Signed.{leZ}
 use mir.Syntax.{w32}
 use mir.Val.{SFits, ofZ}
 use Rattle.rules.specs.Recorder.{missing, inRange, firstBad}
+use Rattle.rules.specs.Bounded.{firstNot}
+use Rattle.rules.proofs.Runs.{first-go}
 use Rattle.rules.proofs.Samples.{first-found}
-use Rattle.checks.specs.Flags.{allInRange}
+use Rattle.checks.specs.Flags.{allInRange, RangedBelow}
 
 -- ---- the test against MISSING, whose bits are 2 ^ 31
 
@@ -46,3 +51,11 @@ limits-are (negsuc n) = and-true (leb n 99999) ∙ sym (leb·suc-suc n 99999)
 pub bad-is : (xs : List ℤ) → ltb (firstBad xs) (length xs) ≡ not (allInRange xs)
 unfolding firstBad allInRange
 bad-is xs = first-found (λ i. inRange (getD xs i (pos 0))) (length xs)
+
+-- the search may begin at any index before which no sample is bad
+pub first-from : (xs : List ℤ) (a : ℕ) → a ≤ length xs → RangedBelow xs a → firstNot (λ i. inRange (getD xs i (pos 0))) a (length xs - a) ≡ firstBad xs
+unfolding firstBad
+first-from xs zero l h = let e : length xs - 0 ≡ length xs = omega arith in rw e
+first-from xs (suc a) l h =
+    sym (first-go (λ i. inRange (getD xs i (pos 0))) a (length xs) l (h a (omega arith)) ∙ rw add-one)
+    ∙ first-from xs a (omega arith) (λ i m. h i (omega arith))

@@ -1,9 +1,11 @@
-// What the recorder hands over, checked: refusals 1 to 6, and how many half-cycles there are.
+// What the recorder hands over, checked: refusals 1 to 5, the tests of a sample for refusal 6, and how many half-cycles there are.
 ghost use mathlib.Core.Path.{_≡_};
+ghost use Prim.Native.Nat.{_≤_};
+ghost use lib.ListN.{length};
 ghost use Rattle.rules.specs.Recorder.{badSetting, missing, inRange, firstBad};
 ghost use Rattle.rules.specs.Halves.{halvesOf};
-ghost use Rattle.rules.specs.Refusals.{settingsCheck, recordingCheck};
-ghost use Rattle.checks.specs.Flags.{allInRange};
+ghost use Rattle.rules.specs.Refusals.{settingsCheck};
+ghost use Rattle.checks.specs.Flags.{odd, allInRange, RangedBelow, shapeCheck};
 use numbers::quotient;
 use numbers::remainder;
 use rules::Refusal;
@@ -76,21 +78,28 @@ const MISSING: i32 = -2147483648;
 const LIMIT: i32 = 100000;
 
 // Whether a sample is missing.
-pub fn is_missing(x: i32) -> bool
+fn is_missing(x: i32) -> bool
     ensures { λ r. ⌜ r ≡ missing x ⌝ }
 {
     x == MISSING
+}
+
+// Whether a sample lies outside the limits: it is missing, or bad.
+pub fn is_odd(x: i32) -> bool
+    ensures { λ r. ⌜ r ≡ odd x ⌝ }
+{
+    !((-LIMIT <= x) & (x <= LIMIT))
 }
 
 // Whether a sample is in range, or missing.
 fn is_in_range(x: i32) -> bool
     ensures { λ r. ⌜ r ≡ inRange x ⌝ }
 {
-    is_missing(x) | ((-LIMIT <= x) & (x <= LIMIT))
+    is_missing(x) | !is_odd(x)
 }
 
 // Whether every sample is in range: one pass of flags, with no branch.
-fn all_in_range(samples: &[i32]) -> bool
+pub fn all_in_range(samples: &[i32]) -> bool
     ensures { λ r. ⌜ r ≡ allInRange (now (samples .entry)) ⌝ }
 {
     let mut good = true;
@@ -102,11 +111,12 @@ fn all_in_range(samples: &[i32]) -> bool
     good
 }
 
-// The index of the first sample that is out of range; the length where there is none.
-fn first_bad(samples: &[i32]) -> usize
+// The index of the first sample that is out of range, where none before index `from` is; the length where there is none.
+pub fn first_bad(samples: &[i32], from: usize) -> usize
+    requires { ⌜ (from ≤ length (now samples)) × RangedBelow (now samples) from ⌝ }
     ensures { λ r. ⌜ r ≡ firstBad (now (samples .entry)) ⌝ }
 {
-    let mut i: usize = 0;
+    let mut i: usize = from;
     while i < samples.len() {
         if !is_in_range(samples[i]) {
             return i;
@@ -116,9 +126,9 @@ fn first_bad(samples: &[i32]) -> usize
     i
 }
 
-// Refusals 2 to 6, in their order. The place of a bad sample is searched only where the flags say that there is one.
-pub fn check_recording(s: Settings, samples: &[i32]) -> Taken
-    ensures { λ r. ⌜ r ≡ recordingCheck s (now (samples .entry)) ⌝ }
+// Refusals 2 to 5, in their order: all that the length says. Refusal 6 comes out of the pass that reads the samples.
+pub fn check_shape(s: Settings, samples: &[i32]) -> Taken
+    ensures { λ r. ⌜ r ≡ shapeCheck s (now (samples .entry)) ⌝ }
 {
     let n = s.n;
     let per_channel = (samples.len() / 3) as u64;
@@ -133,9 +143,6 @@ pub fn check_recording(s: Settings, samples: &[i32]) -> Taken
     }
     if count_halves(s, samples) > 100000 {
         return Taken::Refused(Refusal::Long);
-    }
-    if !all_in_range(samples) {
-        return Taken::Refused(Refusal::Sample(first_bad(samples) as u64));
     }
     Taken::Accepted
 }

@@ -1,3 +1,4 @@
 -- What the proofs of the functions cite.
 pub mod Squares
-pub mod Windows
+pub mod Parts
+pub mod Steps

@@ -1,2 +1,2 @@
--- What the passes over a window find.
-pub mod Windows
+-- What the contracts cite.
+pub mod Steps

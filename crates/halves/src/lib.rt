@@ -1,15 +1,20 @@
-// Half-cycles: each a window of N samples of every channel, unknown where one of them is missing, and else three sums of squares.
+// Half-cycles. A recording is a row of steps, half a cycle of samples of each channel, and each is summed once: half-cycle k is
+// steps k and k + 1, unknown where one of them lacks a sample, and else their sums added.
 ghost use mathlib.Core.Path.{_≡_};
 ghost use mathlib.Core.Bool.{true};
-ghost use Prim.Native.Nat.{_+_, _*_, _≤_};
+ghost use Prim.Native.Nat.{_+_, _*_, _/_, _≤_};
 ghost use lib.ListN.{length};
-ghost use Rattle.rules.specs.Recorder.{settingsGood};
-ghost use Rattle.rules.specs.Halves.{square, begin, halvesOf, halfAt};
-ghost use Rattle.rules.specs.Refusals.{recordingCheck};
+ghost use Rattle.rules.specs.Recorder.{settingsGood, firstBad};
+ghost use Rattle.rules.specs.declared.Refusal.the-variants.{Sample};
+ghost use Rattle.rules.specs.Halves.{square, begin, halvesOf};
 ghost use Rattle.rules.specs.declared.Taken.the-variants.{Accepted};
-ghost use Rattle.halves.specs.Windows.{missingIn, sumsIn, window, halfIn, Ranged, Low};
-use checks::is_missing;
+ghost use Rattle.checks.specs.Flags.{allInRange, RangedBelow, shapeCheck};
+ghost use Rattle.halves.specs.Steps.{part, window, stepRun, oddIn, sumsIn, stepIn, stepAt, joinedOf, Low, Addable};
+use checks::all_in_range;
+use checks::first_bad;
+use checks::is_odd;
 use rules::Half;
+use rules::Refusal;
 use rules::Settings;
 use rules::Sums;
 
@@ -21,22 +26,50 @@ pub fn square(x: i32) -> u64
     (y * y) as u64
 }
 
-// Whether a sample of the window is missing: one pass of flags, with no branch.
-fn has_missing(w: &[i32]) -> bool
-    ensures { λ r. ⌜ r ≡ missingIn (now (w .entry)) ⌝ }
+// The part of a recording that has `many` samples of each channel, from sample `from` on.
+fn part_of<'a>(samples: &'a [i32], from: u64, many: u64) -> &'a [i32]
+    requires { ⌜ 3 * from + 3 * many ≤ length (now samples) ⌝ }
+    ensures { λ r. ⌜ now r ≡ part (now (samples .entry)) from many ⌝ }
+{
+    let start = (3 * from) as usize;
+    let end = start + (3 * many) as usize;
+    &samples[start..end]
+}
+
+// The window of half-cycle k: N samples of each channel from sample k x N/2.
+pub fn window_at<'a>(s: Settings, samples: &'a [i32], k: u64) -> &'a [i32]
+    requires { ⌜ 3 * begin s k + 3 * s .n ≤ length (now samples) ⌝ }
+    ensures { λ r. ⌜ now r ≡ window s (now (samples .entry)) k ⌝ }
+{
+    let n = s.n;
+    part_of(samples, k * (n / 2), n)
+}
+
+// The samples of step j: N/2 of each channel from sample j x N/2.
+fn run_of_step<'a>(s: Settings, samples: &'a [i32], j: u64) -> &'a [i32]
+    requires { ⌜ 3 * begin s j + 3 * (s .n / 2) ≤ length (now samples) ⌝ }
+    ensures { λ r. ⌜ now r ≡ stepRun s (now (samples .entry)) j ⌝ }
+{
+    let n = s.n;
+    part_of(samples, j * (n / 2), n / 2)
+}
+
+// Whether a sample is missing, or bad: one pass of flags, with no branch.
+fn has_odd(w: &[i32]) -> bool
+    ensures { λ r. ⌜ r ≡ oddIn (now (w .entry)) ⌝ }
 {
     let mut found = false;
     let mut i: usize = 0;
     while i < w.len() {
-        found = found | is_missing(w[i]);
+        found = found | is_odd(w[i]);
         i += 1;
     }
     found
 }
 
-// The three sums of squares of a window that lacks no sample: one pass, with no branch.
+// The three sums of squares of a run with no odd sample: one pass, with no branch.
 fn sum_squares(w: &[i32]) -> Sums
-    requires few { ⌜ length (now w) ≤ 1536 ⌝ }
+    requires few { ⌜ length (now w) ≤ 768 ⌝ }
     requires low { ⌜ Low (now w) ⌝ }
     ensures { λ r. ⌜ r ≡ sumsIn (now (w .entry)) ⌝ }
 {
@@ -54,36 +87,59 @@ fn sum_squares(w: &[i32]) -> Sums
     Sums { a: a, b: b, c: c }
 }
 
-// The half-cycle of a window.
-fn half_of(w: &[i32]) -> Half
-    requires few { ⌜ length (now w) ≤ 1536 ⌝ }
-    requires ranged { ⌜ Ranged (now w) ⌝ }
-    ensures { λ r. ⌜ r ≡ halfIn (now (w .entry)) ⌝ }
+// A step's sums; unknown where a sample is missing, or bad.
+fn step_of(w: &[i32]) -> Half
+    requires few { ⌜ length (now w) ≤ 768 ⌝ }
+    ensures { λ r. ⌜ r ≡ stepIn (now (w .entry)) ⌝ }
 {
-    if has_missing(w) {
+    if has_odd(w) {
         return Half::Unknown;
     }
     Half::Known(sum_squares(w))
 }
 
-// The window of half-cycle k: N samples of each channel from sample k x N/2.
-pub fn window_at<'a>(s: Settings, samples: &'a [i32], k: u64) -> &'a [i32]
-    requires { ⌜ 3 * begin s k + 3 * s .n ≤ length (now samples) ⌝ }
-    ensures { λ r. ⌜ now r ≡ window s (now (samples .entry)) k ⌝ }
+// Step j of a recording of good length, which has H + 1 of them.
+pub fn step_at(s: Settings, samples: &[i32], j: u64) -> Half
+    requires { ⌜ (settingsGood s ≡ true) × (shapeCheck s (now samples) ≡ Accepted) × (j ≤ halvesOf s (now samples)) ⌝ }
+    ensures { λ r. ⌜ r ≡ stepAt s (now (samples .entry)) j ⌝ }
 {
-    let n = s.n;
-    let from = (3 * (k * (n / 2))) as usize;
-    let to = from + (3 * n) as usize;
-    &samples[from..to]
+    step_of(run_of_step(s, samples, j))
 }
 
-// Half-cycle k of an accepted recording with `halves` half-cycles; unknown where there is no such half-cycle.
-pub fn half_at(s: Settings, halves: u64, samples: &[i32], k: u64) -> Half
-    requires { ⌜ (settingsGood s ≡ true) × (recordingCheck s (now samples) ≡ Accepted) × (halves ≡ halvesOf s (now samples)) ⌝ }
-    ensures { λ r. ⌜ r ≡ halfAt s (now (samples .entry)) k ⌝ }
+// Whether step j, which was found as `step`, has no bad sample: it is looked at again only where it is unknown.
+pub fn step_in_range(s: Settings, samples: &[i32], j: u64, step: Half) -> bool
+    requires { ⌜ (settingsGood s ≡ true) × (shapeCheck s (now samples) ≡ Accepted) × (j ≤ halvesOf s (now samples)) × (step ≡ stepAt s (now samples) j) ⌝ }
+    ensures { λ r. ⌜ r ≡ allInRange (stepRun s (now (samples .entry)) j) ⌝ }
 {
-    if k >= halves {
-        return Half::Unknown;
+    match step {
+        Half::Known(_) => true,
+        Half::Unknown => all_in_range(run_of_step(s, samples, j)),
     }
-    half_of(window_at(s, samples, k))
+}
+
+// Refusal 6, where a sample is bad and none before step j is.
+pub fn bad_sample(s: Settings, samples: &[i32], j: u64) -> Refusal
+    requires { ⌜ (3 * begin s j ≤ length (now samples)) × RangedBelow (now samples) (3 * begin s j) ⌝ }
+    ensures { λ r. ⌜ r ≡ Sample (firstBad (now (samples .entry))) ⌝ }
+{
+    let n = s.n;
+    Refusal::Sample(first_bad(samples, (3 * (j * (n / 2))) as usize) as u64)
+}
+
+// The half-cycle of two steps.
+pub fn joined(p: Half, q: Half) -> Half
+    requires { ⌜ Addable p × Addable q ⌝ }
+    ensures { λ r. ⌜ r ≡ joinedOf p q ⌝ }
+{
+    let Half::Known(u) = p else {
+        return Half::Unknown;
+    };
+    let Half::Known(v) = q else {
+        return Half::Unknown;
+    };
+    Half::Known(Sums {
+        a: u.a + v.a,
+        b: u.b + v.b,
+        c: u.c + v.c,
+    })
 }

@@ -178,3 +178,9 @@ module _ (s : Settings) (h : ℕ → Half) (kind : Kind) where
       → opens s h kind (suc k) ≡ launched kind (before (λ j. known (h j)) k) k (levelOf s (h k))
   unfolding opens
   opens-launches k e i = step-launches kind (marksOf s kind) _ k (opens s h kind k) (levelOf s (h k)) (goes-at k ∙ e) i
+
+  -- where the half-cycle before is in no event, none is going on
+  pub opens-out : (k : ℕ) → before (inEvent s h kind) k ≡ false → opens s h kind k ≡ closed
+  unfolding opens
+  opens-out zero e = refl
+  opens-out (suc k) e = opens-closed k e

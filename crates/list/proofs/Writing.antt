@@ -1,11 +1,11 @@
 -- The writing pass writes the list: once every slot that waits has its words, the run holds the events that start before
 -- half-cycle k. A turn keeps this, and in the end no slot waits. Assumes nothing.
-use Prim.Native.Nat.{ℕ, suc, _+_, _*_, _≤_, _<_}
+use Prim.Native.Nat.{ℕ, zero, suc, _+_, _*_, _≤_, _<_}
 use mathlib.Core.Path.{_≡_, refl, sym, ap, _∙_}
 use mathlib.Core.Bool.{Bool, true, false, not, _&&_, cond, false≢true}
 use mathlib.Core.Logic.{⊎-elim}
 use mathlib.Core.List.{List, [], _∷_, _++_, append-assoc, append-nil}
-use native.Mathlib.Nat.{eq-or-lt-of-le}
+use native.Mathlib.Nat.{eq-or-lt-of-le, add-zero, le-trans}
 use native.Mathlib.Omega.{arith}
 use lib.ListN.{length, length-append}
 use lib.Seq.{sets, length-sets}
@@ -26,7 +26,7 @@ use Rattle.kinds.specs.declared.Open.{Open}
 use Rattle.list.specs.declared.Pending.{Pending}
 use Rattle.list.specs.declared.Pass.{Pass}
 use Rattle.kinds.specs.Machine.{opens}
-use Rattle.list.specs.Listing.{ReadyAll, startPass, visited, closes, turned, turnedOut, over}
+use Rattle.list.specs.Listing.{ReadyAll, startPass, visited, closes, turned, turnedOut, turns, turnsOut, over}
 use Rattle.kinds.proofs.Machine.{inside-of, opens-closed, opens-lasts, opens-launches}
 use Rattle.list.proofs.Slots.{fill, fill-sets, fill-fill, put-next}
 
@@ -402,6 +402,17 @@ module _ (s : Settings) (xs : List ℤ) where
   pub below-fits : (k : ℕ) → k ≤ suc (halvesOf s xs) → length (wordsBelow k) ≤ length (flat (eventsOf s xs))
   below-fits k l =
       ⊎-elim (λ e. omega (arith, ap length (ap wordsBelow e ∙ below-all))) (λ m. fewer-below k (omega arith)) (eq-or-lt-of-le l)
+
+  -- turn after turn
+  pub writing-turns : (k d : ℕ) (p : Pass) (out o₀ : List ℕ) → Writing k p out o₀ → k + d ≤ suc (halvesOf s xs) → length (flat (eventsOf s xs)) ≤ length o₀
+      → Writing (k + d) (turns s xs k d p) (turnsOut s xs k d p out) o₀
+  unfolding turns turnsOut
+  writing-turns k zero p out o₀ w u room = rw add-zero w
+  writing-turns k (suc d) p out o₀ w u room =
+      let e : k + suc d ≡ suc (k + d) = omega arith in
+      rw e
+      (writing-next (k + d) (turns s xs k d p) (turnsOut s xs k d p out) o₀ (writing-turns k d p out o₀ w (omega arith) room)
+      (le-trans (below-fits (suc (k + d)) (omega arith)) room))
 
   -- what a turn asks
   pub writing-ready : (k : ℕ) (p : Pass) (out o₀ : List ℕ) → Writing k p out o₀ → length (wordsBelow k) ≤ length o₀ → ReadyAll s xs k p (length out)

@@ -1,7 +1,8 @@
-// The event list: a pass that counts the events of all kinds, the room tested, and a pass that writes each where it belongs.
+// The event list: a pass that counts the events of all kinds and notes where something goes on, the room tested, and a pass that
+// goes where the notes say and writes each event where it belongs.
 ghost use mathlib.Core.Path.{_≡_};
 ghost use mathlib.Core.Bool.{true, not, _&&_};
-ghost use Prim.Native.Nat.{_+_, _*_, _≤_};
+ghost use Prim.Native.Nat.{_+_, _-_, _*_, _≤_};
 ghost use lib.ListN.{length};
 ghost use lib.Seq.{sets};
 ghost use Rattle.rules.specs.Bounded.{bit};
@@ -9,14 +10,19 @@ ghost use Rattle.rules.specs.Recorder.{settingsGood};
 ghost use Rattle.rules.specs.Halves.{known, halfAt, halvesOf};
 ghost use Rattle.rules.specs.Events.{three, sixSums, typeOf};
 ghost use Rattle.rules.specs.EventList.{kindNumber, ofSag, wordsOf, eventsOf, flat};
-ghost use Rattle.rules.specs.Refusals.{settingsCheck, recordingCheck, andThen, listed, written};
+ghost use Rattle.rules.specs.Refusals.{settingsCheck, recordingCheck, andThen, byCheck, listed, written};
 ghost use Rattle.rules.specs.declared.Taken.the-variants.{Accepted};
+ghost use Rattle.rules.specs.declared.Listed.the-variants.{Events, Turned};
+ghost use Rattle.checks.specs.Flags.{shapeCheck};
 ghost use Rattle.kinds.specs.Machine.{thresholdsOf, Marked, Few, Light, Finishable, seenNumber, finishedBy};
-ghost use Rattle.list.specs.Listing.{tallied, Visiting, visited, closes, ReadyAll, startPass, turned, turnedOut, over};
-use checks::check_recording;
+ghost use Rattle.list.specs.Listing.{tallied, goingOn, Counting, CountedTo, Noted, Visiting, visited, closes, Turning, WritingGroup, startPass, rested, turned, turnedOut, turns, turnsOut, over};
 use checks::check_settings;
+use checks::check_shape;
 use checks::count_halves;
-use halves::half_at;
+use halves::bad_sample;
+use halves::joined;
+use halves::step_at;
+use halves::step_in_range;
 use kinds::Level;
 use kinds::Marks;
 use kinds::Open;
@@ -27,6 +33,8 @@ use kinds::none;
 use kinds::step;
 use kinds::thresholds_of;
 use numbers::copy;
+use numbers::min;
+use quiet::pass_quiet;
 use rules::Event;
 use rules::Half;
 use rules::Kind;
@@ -67,6 +75,15 @@ pub struct Pass {
     pub swell: Pending,
 }
 
+// What counting a group of half-cycles finds: the tally and the step after it, whether all of its samples are in range, and whether
+// something goes on in it.
+pub struct Counted {
+    pub tally: Tally,
+    pub step: Half,
+    pub good: bool,
+    pub noted: bool,
+}
+
 // 1 where an event starts.
 fn rise(was: bool, is: bool) -> u64
     ensures { λ r. ⌜ (r ≡ bit (is && not was)) × (r ≤ 1) ⌝ }
@@ -99,10 +116,59 @@ fn count_turn(m: Thresholds, t: Tally, half: Half) -> Tally
     }
 }
 
-// How many events an accepted recording has.
-fn count_events(s: Settings, m: Thresholds, halves: u64, samples: &[i32]) -> u64
-    requires { ⌜ (settingsGood s ≡ true) × (recordingCheck s (now samples) ≡ Accepted) × (halves ≡ halvesOf s (now samples)) × (m ≡ thresholdsOf s) ⌝ }
-    ensures { λ r. ⌜ r ≡ length (eventsOf s (now (samples .entry))) ⌝ }
+// Whether an event is going on.
+fn is_open(t: Tally) -> bool
+    ensures { λ r. ⌜ r ≡ goingOn t ⌝ }
+{
+    t.sag | t.interruption | t.swell
+}
+
+// Counts the events that start in a group of half-cycles, `from` to `to`, whose first step is `first`: the quiet ones at its front are
+// passed over, and the machine takes the rest.
+fn count_group(
+    s: Settings,
+    m: Thresholds,
+    samples: &[i32],
+    t: Tally,
+    first: Half,
+    from: u64,
+    to: u64,
+) -> Counted
+    requires { ⌜ Counting s (now samples) m t first from to ⌝ }
+    ensures { λ r. ⌜ CountedTo s (now (samples .entry)) from to r ⌝ }
+{
+    let calm = pass_quiet(s, m, samples, is_open(t), from, to, first);
+    let mut tally = t;
+    let mut step = calm.step;
+    let mut good = true;
+    let mut k = calm.k;
+    while k < to {
+        let next = step_at(s, samples, k + 1);
+        good = good & step_in_range(s, samples, k + 1, next);
+        tally = count_turn(m, tally, joined(step, next));
+        step = next;
+        k += 1;
+    }
+    Counted {
+        tally,
+        step,
+        good,
+        noted: calm.k < to,
+    }
+}
+
+// How many events a recording of good length has, or refusal 6, which is told as soon as a bad sample is met. A group of half-cycles
+// in which something goes on is noted.
+fn count_events(
+    s: Settings,
+    m: Thresholds,
+    halves: u64,
+    samples: &[i32],
+    notes: &mut [bool; 12500],
+) -> Listed
+    requires { ⌜ (settingsGood s ≡ true) × (shapeCheck s (now samples) ≡ Accepted) × (halves ≡ halvesOf s (now samples)) × (m ≡ thresholdsOf s) ⌝ }
+    ensures { λ r. ⌜ r ≡ byCheck (recordingCheck s (now (samples .entry))) (Events (length (eventsOf s (now (samples .entry))))) (λ q. Turned q) ⌝ }
+    ensures { λ r. ⌜ recordingCheck s (now (samples .entry)) ≡ Accepted → Noted s (now (samples .entry)) (now (notes .exit)) ⌝ }
 {
     let mut t = Tally {
         sag: false,
@@ -110,12 +176,23 @@ fn count_events(s: Settings, m: Thresholds, halves: u64, samples: &[i32]) -> u64
         swell: false,
         n: 0,
     };
-    let mut k: u64 = 0;
-    while k < halves {
-        t = count_turn(m, t, half_at(s, halves, samples, k));
-        k += 1;
+    let mut step = step_at(s, samples, 0);
+    if !step_in_range(s, samples, 0, step) {
+        return Listed::Turned(bad_sample(s, samples, 0));
     }
-    t.n
+    let mut g: u64 = 0;
+    while 8 * g < halves {
+        let from = 8 * g;
+        let group = count_group(s, m, samples, t, step, from, min(from + 8, halves));
+        if !group.good {
+            return Listed::Turned(bad_sample(s, samples, from));
+        }
+        notes[g as usize] = group.noted;
+        t = group.tally;
+        step = group.step;
+        g += 1;
+    }
+    Listed::Events(t.n)
 }
 
 // 1 sag, 2 interruption, 3 swell.
@@ -246,22 +323,22 @@ fn visit(
     }
 }
 
-// Half-cycle k by all three kinds, its sums computed once.
+// Half-cycle k by all three kinds.
 fn turn(
     s: Settings,
     m: Thresholds,
-    halves: u64,
     samples: &[i32],
+    half: Half,
     p: Pass,
     k: u64,
     out: &mut [u64],
 ) -> Pass
-    requires { ⌜ (settingsGood s ≡ true) × (recordingCheck s (now samples) ≡ Accepted) × (halves ≡ halvesOf s (now samples)) × (m ≡ thresholdsOf s) × (k ≤ halves) × ReadyAll s (now samples) k p (length (now out)) ⌝ }
+    requires { ⌜ Turning s (now samples) m half k p (length (now out)) ⌝ }
     ensures { λ r. ⌜ r ≡ turned s (now (samples .entry)) k p ⌝ }
     ensures { λ r. ⌜ now (out .exit) ≡ turnedOut s (now (samples .entry)) k p (now (out .entry)) ⌝ }
 {
     let marks = m.sag;
-    let l = level_at(m.full, marks.from, half_at(s, halves, samples, k));
+    let l = level_at(m.full, marks.from, half);
     let seen = p.known;
     let a = visit(s, samples, Kind::Sag, m.sag, seen, k, p.sag, l, p.n, out);
     let b = visit(
@@ -317,45 +394,113 @@ fn start_pass() -> Pass
     }
 }
 
-// Writes the events of an accepted recording over the front of `out`, which has room for them. Half-cycle H, which does not
-// exist, ends what is still going on.
-fn write_events(s: Settings, m: Thresholds, halves: u64, samples: &[i32], out: &mut [u64])
-    requires { ⌜ (settingsGood s ≡ true) × (recordingCheck s (now samples) ≡ Accepted) × (halves ≡ halvesOf s (now samples)) × (m ≡ thresholdsOf s) × (length (flat (eventsOf s (now samples))) ≤ length (now out)) ⌝ }
-    ensures { λ r. ⌜ now (out .exit) ≡ over (flat (eventsOf s (now (samples .entry)))) (now (out .entry)) ⌝ }
+// After half-cycles at which nothing goes on nothing has changed but that the one before is known.
+fn rest(p: Pass) -> Pass
+    ensures { λ r. ⌜ r ≡ rested p ⌝ }
 {
-    let mut p = start_pass();
-    let mut k: u64 = 0;
-    while k <= halves {
-        p = turn(s, m, halves, samples, p, k, out);
-        k += 1;
+    let sag = p.sag;
+    let interruption = p.interruption;
+    let swell = p.swell;
+    Pass {
+        known: true,
+        n: p.n,
+        sag,
+        interruption,
+        swell,
     }
 }
 
-// Refusals 1 to 6, in their order.
+// A group of half-cycles by all three kinds, where it is noted; else nothing goes on in it.
+fn write_group(
+    s: Settings,
+    m: Thresholds,
+    samples: &[i32],
+    noted: bool,
+    p: Pass,
+    from: u64,
+    to: u64,
+    out: &mut [u64],
+) -> Pass
+    requires { ⌜ WritingGroup s (now samples) m noted from to p (length (now out)) ⌝ }
+    ensures { λ r. ⌜ r ≡ turns s (now (samples .entry)) from (to - from) p ⌝ }
+    ensures { λ r. ⌜ now (out .exit) ≡ turnsOut s (now (samples .entry)) from (to - from) p (now (out .entry)) ⌝ }
+{
+    if !noted {
+        return rest(p);
+    }
+    let mut pass = p;
+    let mut step = step_at(s, samples, from);
+    let mut k = from;
+    while k < to {
+        let next = step_at(s, samples, k + 1);
+        pass = turn(s, m, samples, joined(step, next), pass, k, out);
+        step = next;
+        k += 1;
+    }
+    pass
+}
+
+// Writes the events of an accepted recording over the front of `out`, which has room for them. Half-cycle H, which does not
+// exist, ends what is still going on.
+fn write_events(
+    s: Settings,
+    m: Thresholds,
+    halves: u64,
+    samples: &[i32],
+    notes: &[bool; 12500],
+    out: &mut [u64],
+)
+    requires { ⌜ (settingsGood s ≡ true) × (recordingCheck s (now samples) ≡ Accepted) × (halves ≡ halvesOf s (now samples)) × (m ≡ thresholdsOf s) × Noted s (now samples) (now notes) × (length (flat (eventsOf s (now samples))) ≤ length (now out)) ⌝ }
+    ensures { λ r. ⌜ now (out .exit) ≡ over (flat (eventsOf s (now (samples .entry)))) (now (out .entry)) ⌝ }
+{
+    let mut p = start_pass();
+    let mut g: u64 = 0;
+    while 8 * g < halves {
+        let from = 8 * g;
+        p = write_group(
+            s,
+            m,
+            samples,
+            notes[g as usize],
+            p,
+            from,
+            min(from + 8, halves),
+            out,
+        );
+        g += 1;
+    }
+    turn(s, m, samples, Half::Unknown, p, halves, out);
+}
+
+// Refusals 1 to 5, in their order.
 fn check(s: Settings, samples: &[i32]) -> Taken
-    ensures { λ r. ⌜ r ≡ andThen (settingsCheck s) (recordingCheck s (now (samples .entry))) ⌝ }
+    ensures { λ r. ⌜ r ≡ andThen (settingsCheck s) (shapeCheck s (now (samples .entry))) ⌝ }
 {
     let settings = check_settings(s);
     match settings {
-        Taken::Accepted => check_recording(s, samples),
+        Taken::Accepted => check_shape(s, samples),
         Taken::Refused(r) => Taken::Refused(r),
     }
 }
 
-// The events of an accepted recording, counted, and written where there is room for all of them.
-fn list_accepted(s: Settings, samples: &[i32], out: &mut [u64]) -> Listed
-    requires { ⌜ (settingsGood s ≡ true) × (recordingCheck s (now samples) ≡ Accepted) ⌝ }
+// The events of a recording of good length: counted, and written where there is room for all of them.
+fn list_shaped(s: Settings, samples: &[i32], out: &mut [u64]) -> Listed
+    requires { ⌜ (settingsGood s ≡ true) × (shapeCheck s (now samples) ≡ Accepted) ⌝ }
     ensures { λ r. ⌜ r ≡ listed s (now (samples .entry)) (length (now (out .entry))) ⌝ }
     ensures { λ r. ⌜ now (out .exit) ≡ written s (now (samples .entry)) (now (out .entry)) ⌝ }
 {
     let halves = count_halves(s, samples);
     let m = thresholds_of(s);
-    let total = count_events(s, m, halves, samples);
+    let mut notes: [bool; 12500] = [false; 12500];
+    let counted = count_events(s, m, halves, samples, &mut notes);
+    let Listed::Events(total) = counted else {
+        return counted;
+    };
     let room = (out.len() / 8) as u64;
     if room < total {
         return Listed::Turned(Refusal::Room(total));
     }
-    write_events(s, m, halves, samples, out);
+    write_events(s, m, halves, samples, &notes, out);
     Listed::Events(total)
 }
 
@@ -367,7 +512,7 @@ pub fn list(s: Settings, samples: &[i32], out: &mut [u64]) -> Listed
 {
     let checked = check(s, samples);
     match checked {
-        Taken::Accepted => list_accepted(s, samples, out),
+        Taken::Accepted => list_shaped(s, samples, out),
         Taken::Refused(r) => Listed::Turned(r),
     }
 }

@@ -13,8 +13,8 @@ use Rattle.rules.specs.Recorder.{sampleAt}
 use Rattle.rules.specs.Halves.{samplesOf, square, begin}
 use Rattle.rules.specs.Events.{twice, sixParts, plus, sixBelow, sixSums, smallest, largest}
 use Rattle.rules.specs.declared.Settings.{Settings}
-use Rattle.halves.specs.Windows.{window, Low}
-use Rattle.halves.proofs.Windows.{window-samples, sample-is}
+use Rattle.halves.specs.Steps.{window, Low}
+use Rattle.halves.proofs.Parts.{part-samples, sample-is}
 use Rattle.sag_type.specs.Six.{sixUpTo, sixIn, Sixes}
 use Rattle.sag_type.proofs.Signed.{abs-add, abs-sub}
 
@@ -118,6 +118,6 @@ module _ (s : Settings) (xs : List ℤ) (k : ℕ) (fits : 3 * begin s k + 3 * s 
   pub window-six : sixIn (window s xs k) ≡ sixSums s xs k
   unfolding sixIn sixSums
   window-six =
-      rw (window-samples s xs k fits)
+      rw (part-samples xs (begin s k) (s .n) fits)
       (six-same _ _ (s .n)
-      (λ i l. rw (sample-is s xs k fits 0 i (omega arith) l, sample-is s xs k fits 1 i (omega arith) l, sample-is s xs k fits 2 i (omega arith) l)))
+      (λ i l. rw (sample-is xs (begin s k) (s .n) fits 0 i (omega arith) l, sample-is xs (begin s k) (s .n) fits 1 i (omega arith) l, sample-is xs (begin s k) (s .n) fits 2 i (omega arith) l)))

@@ -9,7 +9,7 @@ ghost use Rattle.rules.specs.Halves.{square, known, halfAt};
 ghost use Rattle.rules.specs.Events.{twice, sixParts, plus, sixSums, numberOfFirst, typeOf};
 ghost use Rattle.rules.specs.Refusals.{recordingCheck};
 ghost use Rattle.rules.specs.declared.Taken.the-variants.{Accepted};
-ghost use Rattle.halves.specs.Windows.{Low};
+ghost use Rattle.halves.specs.Steps.{Low};
 ghost use Rattle.sag_type.specs.Six.{sixIn, Sixes, endsOf};
 use halves::square;
 use halves::window_at;

@@ -1,8 +1,13 @@
 -- Two tables added, number by number.
-use Prim.Native.Nat.{ℕ, _+_, _≤_}
+use Prim.Native.Nat.{ℕ, _+_, _-_, _≤_}
+use mathlib.Core.Bool.{cond}
+use lib.Dec.{ltb}
 use lib.ListN.{getD}
-use Rattle.rules.specs.Site.{cellsFrom}
+use Rattle.rules.specs.Site.{cellsFrom, mostHalves}
 use Rattle.rules.specs.declared.Table.{Table}
+use Rattle.rules.specs.declared.Site.{Site as Handed}
+use Rattle.rules.specs.declared.Refusal.the-variants.{Full}
+use Rattle.rules.specs.declared.Taken.the-variants.{Accepted, Refused}
 
 unfoldable pub merged : Table → Table → Table
 merged t u =
@@ -32,3 +37,13 @@ pub record Mergeable (t u : Table) : Type 0 where
   pub interruptions-few : t .interruptions + u .interruptions ≤ 4000000
   pub swells-few : t .swells + u .swells ≤ 4000000
   pub shortfall-low : t .shortfall + u .shortfall ≤ 15360000000000000000
+
+-- the table of a recording added to a sound table, where there is room for its half-cycles
+pub record Adding (t u : Table) : Type 0 where
+  pub total-high : t .total ≤ mostHalves
+  pub mergeable : t .total + u .total ≤ mostHalves → Mergeable t u
+
+unfoldable pub addedTo : Table → Table → Handed
+addedTo t u =
+    let full = ltb (mostHalves - t .total) (u .total) in
+    record { answer = cond full (Refused (Full (mostHalves - t .total))) Accepted; table = cond full t (merged t u) }

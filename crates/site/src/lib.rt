@@ -5,12 +5,12 @@ ghost use Prim.Native.Nat.{ℕ, _+_, _*_, _≤_, min as lesser};
 ghost use lib.Dec.{eqb};
 ghost use lib.ListN.{getD};
 ghost use Rattle.rules.specs.Site.{total, cellsFrom, empty, zeroSettings, isUnsound};
-ghost use Rattle.rules.specs.Refusals.{recordingCheck, freshened, added};
+ghost use Rattle.rules.specs.Refusals.{freshened, added};
 ghost use Rattle.rules.specs.declared.Taken.the-variants.{Accepted};
-ghost use Rattle.site.specs.Merging.{Mergeable, merged};
-use checks::check_recording;
+ghost use Rattle.checks.specs.Flags.{shapeCheck};
+ghost use Rattle.site.specs.Merging.{Mergeable, merged, Adding, addedTo};
 use checks::check_settings;
-use checks::count_halves;
+use checks::check_shape;
 use checks::first_bad_setting;
 use numbers::add_each;
 use numbers::min;
@@ -20,6 +20,7 @@ use rules::Site;
 use rules::Table;
 use rules::Taken;
 use score::full_of;
+use survey::Tabled;
 use survey::table_of;
 
 // Whether three counts make up the total. A count above the total is told first: then no sum can wrap and look right.
@@ -166,14 +167,13 @@ pub fn fresh(s: Settings) -> Site
     }
 }
 
-// Adds an accepted recording to a sound table, where there is room for its half-cycles.
-fn add_accepted(t: Table, samples: &[i32]) -> Site
-    requires { ⌜ (isUnsound t ≡ false) × (recordingCheck (t .settings) (now samples) ≡ Accepted) ⌝ }
-    ensures { λ r. ⌜ r ≡ added t (now (samples .entry)) ⌝ }
+// Adds the table of an accepted recording to a sound table, where there is room for its half-cycles.
+fn add_table(t: Table, u: Table) -> Site
+    requires { ⌜ Adding t u ⌝ }
+    ensures { λ r. ⌜ r ≡ addedTo t u ⌝ }
 {
-    let s = t.settings;
     let room = 4000000 - t.total;
-    if room < count_halves(s, samples) {
+    if room < u.total {
         return Site {
             answer: Taken::Refused(Refusal::Full(room)),
             table: t,
@@ -181,7 +181,22 @@ fn add_accepted(t: Table, samples: &[i32]) -> Site
     }
     Site {
         answer: Taken::Accepted,
-        table: merge(t, table_of(s, samples)),
+        table: merge(t, u),
+    }
+}
+
+// Adds a recording of good length to a sound table.
+fn add_shaped(t: Table, samples: &[i32]) -> Site
+    requires { ⌜ (isUnsound t ≡ false) × (shapeCheck (t .settings) (now samples) ≡ Accepted) ⌝ }
+    ensures { λ r. ⌜ r ≡ added t (now (samples .entry)) ⌝ }
+{
+    let tabled = table_of(t.settings, samples);
+    match tabled {
+        Tabled::Whole(u) => add_table(t, u),
+        Tabled::Turned(r) => Site {
+            answer: Taken::Refused(r),
+            table: t,
+        },
     }
 }
 
@@ -196,9 +211,9 @@ pub fn add(t: Table, samples: &[i32]) -> Site
         };
     }
     let s = t.settings;
-    let checked = check_recording(s, samples);
+    let checked = check_shape(s, samples);
     match checked {
-        Taken::Accepted => add_accepted(t, samples),
+        Taken::Accepted => add_shaped(t, samples),
         Taken::Refused(r) => Site {
             answer: Taken::Refused(r),
             table: t,

@@ -1,23 +1,24 @@
 -- The pass over a recording that a site table takes, as the code runs it; proofs/ ties it to the rules.
 use Prim.Native.Nat.{ℕ, zero, suc, _+_, _-_, _*_, _≤_, _<_}
 use mathlib.Core.Path.{_≡_}
-use mathlib.Core.Bool.{Bool, true, false, not, _&&_, cond}
+use mathlib.Core.Bool.{Bool, true, false, not, _&&_, _||_, cond}
 use mathlib.Core.List.{List}
 use lib.ListN.{getD, set, replicate}
 use lib.IntN.{ℤ}
-use lib.Dec.{eqb}
+use lib.Dec.{ltb, eqb}
 use Rattle.rules.specs.Bounded.{before, bit, count}
 use Rattle.rules.specs.Recorder.{settingsGood}
-use Rattle.rules.specs.Refusals.{recordingCheck}
-use Rattle.rules.specs.declared.Taken.the-variants.{Accepted}
-use Rattle.rules.specs.Halves.{known, halfAt, halvesOf}
+use Rattle.rules.specs.Halves.{begin, known, halfAt, halvesOf}
 use Rattle.rules.specs.Events.{inEvent, starts, endOf, startSeen, endSeen, shortsOf, three}
 use Rattle.rules.specs.Site.{cells, cellAt, isHealthy, isDisturbed, isUnknown, sagCell, cellsFrom}
 use Rattle.rules.specs.declared.Settings.{Settings}
 use Rattle.rules.specs.declared.Half.{Half}
 use Rattle.rules.specs.declared.Kind.{Kind}
 use Rattle.rules.specs.declared.Kind.the-variants.{Sag, Interruption, Swell}
-use Rattle.kinds.specs.Machine.{thresholdsOf, goesBy, stepBy, closed, opens, Light}
+use Rattle.checks.specs.Flags.{allInRange, RangedBelow, asRead}
+use Rattle.halves.specs.Steps.{stepAt}
+use Rattle.kinds.specs.Machine.{levelFrom, goesBy, stepBy, closed, opens, Marked, Few, Light}
+use Rattle.quiet.specs.Quiet.{Reading}
 use Rattle.kinds.specs.declared.Thresholds.{Thresholds}
 use Rattle.kinds.specs.declared.Level.{Level}
 use Rattle.kinds.specs.declared.Open.{Open}
@@ -26,6 +27,7 @@ use Rattle.survey.specs.declared.Classes.{Classes}
 use Rattle.survey.specs.declared.Starts.{Starts}
 use Rattle.survey.specs.declared.Landed.{Landed}
 use Rattle.survey.specs.declared.Survey.{Survey}
+use Rattle.survey.specs.declared.Surveyed.{Surveyed}
 
 -- ---- a half-cycle
 
@@ -37,6 +39,10 @@ trackedBy m k t l =
       interruption = goesBy Interruption (m .interruption) (t .interruption) l;
       swell = goesBy Swell (m .swell) (t .swell) l;
     }
+
+-- an event is going on
+abbrev pub goingOn : Track → Bool
+goingOn t = t .sag .inside || t .interruption || t .swell
 
 abbrev pub classedBy : Classes → Bool → Bool → Classes
 classedBy c isKnown any =
@@ -81,6 +87,56 @@ pub record Landable (s : Settings) (n : Landed) (ends : Bool) (o : Open) (k : �
   pub light : Light (o .short)
   pub unplaced-few : n .unplaced ≤ 4000000
   pub shortfall-low : n .shortfall ≤ 3000000000000000000
+
+-- what a half-cycle makes of a survey, and of the cells
+abbrev pub landsBy : Thresholds → Half → Survey → ℕ → Bool
+landsBy m v p k =
+    p .track .sag .inside && not (trackedBy m k (p .track) (levelFrom (m .full) (m .sag .from) v) .sag .inside)
+
+unfoldable pub surveyedBy : Thresholds → Half → Survey → ℕ → Survey
+surveyedBy m v p k =
+    let l = levelFrom (m .full) (m .sag .from) v in
+    let is = trackedBy m k (p .track) l in
+    record {
+      track = is;
+      classes = classedBy (p .classes) (l .known) (goingOn is);
+      starts = startedBy (p .starts) (p .track) is;
+      landed = landedBy (p .landed) (landsBy m v p k) (p .track .sag) (l .known);
+    }
+
+unfoldable pub cellsTurned : Settings → Thresholds → Half → Survey → ℕ → List ℕ → List ℕ
+cellsTurned s m v p k cs =
+    cellsBy s (landsBy m v p k) (p .track .sag) k (levelFrom (m .full) (m .sag .from) v .known) cs
+
+-- what that asks: numbers that can grow
+pub record Turnable (s : Settings) (m : Thresholds) (v : Half) (p : Survey) (k : ℕ) (cs : List ℕ) : Type 0 where
+  pub marked : Marked m
+  pub few : Few v
+  pub follow : Light (p .track .sag .short) × Light (levelFrom (m .full) (m .sag .from) v .short)
+  pub classes-few : (p .classes .healthy ≤ 4000000) × (p .classes .disturbed ≤ 4000000) × (p .classes .unknown ≤ 4000000)
+  pub starts-few : (p .starts .sags ≤ 4000000) × (p .starts .interruptions ≤ 4000000) × (p .starts .swells ≤ 4000000)
+  pub landable : Landable s (p .landed) (landsBy m v p k) (p .track .sag) k cs
+
+-- so many half-cycles more at which nothing goes on: they are healthy, and the last of them is known
+abbrev pub passedOver : Survey → ℕ → Survey
+passedOver p more =
+    record {
+      track =
+          record {
+            known = p .track .known || ltb 0 more;
+            sag = p .track .sag;
+            interruption = p .track .interruption;
+            swell = p .track .swell;
+          };
+      classes =
+          record {
+            healthy = p .classes .healthy + more;
+            disturbed = p .classes .disturbed;
+            unknown = p .classes .unknown;
+          };
+      starts = p .starts;
+      landed = p .landed;
+    }
 
 -- ---- the state before half-cycle k, told by the rules
 
@@ -152,12 +208,19 @@ startSurvey =
       landed = record { unplaced = 0; shortfall = 0 };
     }
 
--- what a turn asks
-pub record Surveying (s : Settings) (xs : List ℤ) (m : Thresholds) (halves k : ℕ) (p : Survey) (cs : List ℕ) : Type 0 where
-  pub good-settings : settingsGood s ≡ true
-  pub accepted : recordingCheck s xs ≡ Accepted
-  pub count-is : halves ≡ halvesOf s xs
-  pub thresholds : m ≡ thresholdsOf s
-  pub inside : k < halves
-  pub state : p ≡ surveyAt s (halfAt s xs) (halvesOf s xs) k
-  pub cells-are : cs ≡ cellsAt s (halfAt s xs) (halvesOf s xs) k
+-- ---- a group of half-cycles
+
+-- what it asks: the state before it, and that all samples up to its first step are in range
+pub record Surveying (s : Settings) (xs : List ℤ) (m : Thresholds) (p : Survey) (first : Half) (from to : ℕ) (cs : List ℕ) : Type 0 where
+  pub reading : Reading s xs m from to first
+  pub state : p ≡ surveyAt s (halfAt s (asRead xs)) (halvesOf s (asRead xs)) from
+  pub cells-are : cs ≡ cellsAt s (halfAt s (asRead xs)) (halvesOf s (asRead xs)) from
+  pub in-range : RangedBelow xs (3 * begin s (suc from))
+
+-- what it gives, of the recording as it is read
+pub record SurveyedTo (s : Settings) (xs : List ℤ) (to : ℕ) (r : Surveyed) (cs : List ℕ) : Type 0 where
+  pub state : r .survey ≡ surveyAt s (halfAt s (asRead xs)) (halvesOf s (asRead xs)) to
+  pub cells-are : cs ≡ cellsAt s (halfAt s (asRead xs)) (halvesOf s (asRead xs)) to
+  pub step : r .step ≡ stepAt s xs to
+  pub in-range : r .good ≡ true → RangedBelow xs (3 * begin s (suc to))
+  pub bad : r .good ≡ false → allInRange xs ≡ false

@@ -4,15 +4,19 @@ ghost use mathlib.Core.Bool.{true, cond};
 ghost use Prim.Native.Nat.{_+_, _≤_};
 ghost use Rattle.rules.specs.Bounded.{bit};
 ghost use Rattle.rules.specs.Recorder.{settingsGood};
-ghost use Rattle.rules.specs.Halves.{halfAt, halvesOf};
 ghost use Rattle.rules.specs.Events.{three};
 ghost use Rattle.rules.specs.Site.{empty, grown};
-ghost use Rattle.rules.specs.Refusals.{recordingCheck};
+ghost use Rattle.rules.specs.Refusals.{recordingCheck, byCheck};
 ghost use Rattle.rules.specs.declared.Taken.the-variants.{Accepted};
+ghost use Rattle.checks.specs.Flags.{shapeCheck};
 ghost use Rattle.kinds.specs.Machine.{Light};
-ghost use Rattle.survey.specs.Pass.{trackedBy, classedBy, startedBy, landedBy, cellsBy, Placeable, Landable, Surveying, surveyAt, cellsAt, startSurvey};
+ghost use Rattle.survey.specs.declared.Tabled.the-variants.{Whole, Turned};
+ghost use Rattle.survey.specs.Pass.{trackedBy, classedBy, startedBy, landedBy, cellsBy, Placeable, Landable, Turnable, surveyedBy, cellsTurned, goingOn, passedOver, Surveying, SurveyedTo, startSurvey};
 use checks::count_halves;
-use halves::half_at;
+use halves::bad_sample;
+use halves::joined;
+use halves::step_at;
+use halves::step_in_range;
 use kinds::Level;
 use kinds::Open;
 use kinds::Thresholds;
@@ -21,7 +25,11 @@ use kinds::level_at;
 use kinds::none;
 use kinds::step;
 use kinds::thresholds_of;
+use numbers::min;
+use quiet::pass_quiet;
+use rules::Half;
 use rules::Kind;
+use rules::Refusal;
 use rules::Settings;
 use rules::Sums;
 use rules::Table;
@@ -60,6 +68,19 @@ pub struct Survey {
     pub classes: Classes,
     pub starts: Starts,
     pub landed: Landed,
+}
+
+// What a group of half-cycles makes of a survey: that after it, the step after it, and whether all of its samples are in range.
+pub struct Surveyed {
+    pub survey: Survey,
+    pub step: Half,
+    pub good: bool,
+}
+
+// The table of a recording, or refusal 6.
+pub enum Tabled {
+    Whole(Table),
+    Turned(Refusal),
 }
 
 // One more where it holds.
@@ -160,22 +181,21 @@ fn land(
     }
 }
 
-// Half-cycle k, its sums computed once for all kinds and all counts.
+// Half-cycle k for all kinds and all counts.
 fn survey_turn(
     s: Settings,
     m: Thresholds,
-    halves: u64,
-    samples: &[i32],
+    half: Half,
     p: Survey,
     k: u64,
     cells: &mut [u64; 40],
 ) -> Survey
-    requires { ⌜ Surveying s (now samples) m halves k p (now cells) ⌝ }
-    ensures { λ r. ⌜ r ≡ surveyAt s (halfAt s (now (samples .entry))) (halvesOf s (now (samples .entry))) (k + 1) ⌝ }
-    ensures { λ r. ⌜ now (cells .exit) ≡ cellsAt s (halfAt s (now (samples .entry))) (halvesOf s (now (samples .entry))) (k + 1) ⌝ }
+    requires { ⌜ Turnable s m half p k (now cells) ⌝ }
+    ensures { λ r. ⌜ r ≡ surveyedBy m half p k ⌝ }
+    ensures { λ r. ⌜ now (cells .exit) ≡ cellsTurned s m half p k (now (cells .entry)) ⌝ }
 {
     let marks = m.sag;
-    let l = level_at(m.full, marks.from, half_at(s, halves, samples, k));
+    let l = level_at(m.full, marks.from, half);
     let was = p.track;
     let is = follow(m, k, was, l);
     let open = was.sag;
@@ -221,26 +241,111 @@ fn start_survey() -> Survey
     }
 }
 
-// The table of one accepted recording. Half-cycle H, which does not exist, ends a sag that is still going on.
-pub fn table_of(s: Settings, samples: &[i32]) -> Table
-    requires { ⌜ (settingsGood s ≡ true) × (recordingCheck s (now samples) ≡ Accepted) ⌝ }
-    ensures { λ r. ⌜ r ≡ grown (empty s) (now (samples .entry)) ⌝ }
+// Whether an event is going on.
+fn is_open(t: Track) -> bool
+    ensures { λ r. ⌜ r ≡ goingOn t ⌝ }
+{
+    let sag = t.sag;
+    sag.inside | t.interruption | t.swell
+}
+
+// The survey after so many half-cycles more at which nothing goes on: they are healthy, and the last of them is known.
+fn pass_over(p: Survey, more: u64) -> Survey
+    requires { ⌜ (p .classes .healthy ≤ 4000000) × (more ≤ 4000000) ⌝ }
+    ensures { λ r. ⌜ r ≡ passedOver p more ⌝ }
+{
+    let t = p.track;
+    let sag = t.sag;
+    let c = p.classes;
+    let starts = p.starts;
+    let landed = p.landed;
+    Survey {
+        track: Track {
+            known: t.known | (0 < more),
+            sag,
+            interruption: t.interruption,
+            swell: t.swell,
+        },
+        classes: Classes {
+            healthy: c.healthy + more,
+            disturbed: c.disturbed,
+            unknown: c.unknown,
+        },
+        starts,
+        landed,
+    }
+}
+
+// A group of half-cycles, `from` to `to`, whose first step is `first`: the quiet ones at its front are passed over, and the machine
+// takes the rest.
+fn survey_group(
+    s: Settings,
+    m: Thresholds,
+    samples: &[i32],
+    p: Survey,
+    first: Half,
+    from: u64,
+    to: u64,
+    cells: &mut [u64; 40],
+) -> Surveyed
+    requires { ⌜ Surveying s (now samples) m p first from to (now cells) ⌝ }
+    ensures { λ r. ⌜ SurveyedTo s (now (samples .entry)) to r (now (cells .exit)) ⌝ }
+{
+    let calm = pass_quiet(s, m, samples, is_open(p.track), from, to, first);
+    let mut survey = pass_over(p, calm.k - from);
+    let mut step = calm.step;
+    let mut good = true;
+    let mut k = calm.k;
+    while k < to {
+        let next = step_at(s, samples, k + 1);
+        good = good & step_in_range(s, samples, k + 1, next);
+        survey = survey_turn(s, m, joined(step, next), survey, k, cells);
+        step = next;
+        k += 1;
+    }
+    Surveyed { survey, step, good }
+}
+
+// The table of one recording of good length, or refusal 6, which is told as soon as a bad sample is met. Half-cycle H, which does not
+// exist, ends a sag that is still going on.
+pub fn table_of(s: Settings, samples: &[i32]) -> Tabled
+    requires { ⌜ (settingsGood s ≡ true) × (shapeCheck s (now samples) ≡ Accepted) ⌝ }
+    ensures { λ r. ⌜ r ≡ byCheck (recordingCheck s (now (samples .entry))) (Whole (grown (empty s) (now (samples .entry)))) (λ q. Turned q) ⌝ }
 {
     let halves = count_halves(s, samples);
     let m = thresholds_of(s);
     let mut cells: [u64; 40] = [0; 40];
     let mut p = start_survey();
-    let mut k: u64 = 0;
-    while k < halves {
-        p = survey_turn(s, m, halves, samples, p, k, &mut cells);
-        k += 1;
+    let mut step = step_at(s, samples, 0);
+    if !step_in_range(s, samples, 0, step) {
+        return Tabled::Turned(bad_sample(s, samples, 0));
+    }
+    let mut g: u64 = 0;
+    while 8 * g < halves {
+        let from = 8 * g;
+        let group = survey_group(
+            s,
+            m,
+            samples,
+            p,
+            step,
+            from,
+            min(from + 8, halves),
+            &mut cells,
+        );
+        if !group.good {
+            return Tabled::Turned(bad_sample(s, samples, from));
+        }
+        p = group.survey;
+        step = group.step;
+        g += 1;
     }
     let track = p.track;
     let open = track.sag;
     let landed = land(s, p.landed, open.inside, open, halves, false, &mut cells);
     let classes = p.classes;
     let starts = p.starts;
-    Table {
+    Tabled::Whole(Table {
         settings: s,
         total: halves,
         healthy: classes.healthy,
@@ -252,5 +357,5 @@ pub fn table_of(s: Settings, samples: &[i32]) -> Table
         interruptions: starts.interruptions,
         swells: starts.swells,
         shortfall: landed.shortfall,
-    }
+    })
 }

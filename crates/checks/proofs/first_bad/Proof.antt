@@ -1,4 +1,4 @@
--- The first bad sample from place i on is the first of all. Assumes nothing.
+-- The first bad sample from place i on is the first of all: none before the place asked for is bad. Assumes nothing.
 use Prim.Native.Nat.{ℕ, _-_, _≤_}
 use mathlib.Core.Path.{_≡_, sym, ap, _∙_}
 use mathlib.Core.Bool.{Bool}
@@ -14,6 +14,7 @@ use mir.ValLaws.{toZ-ofZ}
 use Rattle.rules.specs.Bounded.{firstNot}
 use Rattle.rules.specs.Recorder.{inRange, firstBad}
 use Rattle.rules.proofs.Runs.{first-go, first-stop, first-end}
+use Rattle.checks.proofs.Tests.{first-from}
 use Rattle.checks.proofs.first_bad.Statement.{statement}
 use Rattle.checks.proofs.first_bad.Tie as tie
 
@@ -21,10 +22,10 @@ abbrev good : List ℤ → ℕ → Bool
 good xs j = inRange (getD xs j (pos 0))
 
 abbrev Inv-loop : tie.InvT-loop
-Inv-loop samples i₀ i = (i ≤ length samples) × (firstNot (good samples) i (length samples - i) ≡ firstBad samples)
+Inv-loop samples from i₀ i = (i ≤ length samples) × (firstNot (good samples) i (length samples - i) ≡ firstBad samples)
 
 abbrev μ-loop : tie.MeasureT-loop
-μ-loop samples i₀ i = length samples - i
+μ-loop samples from i₀ i = length samples - i
 
 -- what the test says of the sample at i
 told : (c : tie.After-is-in-range Inv-loop μ-loop)
@@ -35,11 +36,7 @@ told c =
     c .is-in-range .ensures ∙ ap inRange (toZ-ofZ w32 x (record { sfits = c .before .is-in-range-arg .given }))
 
 loop-holds : tie.Need-loop-holds Inv-loop μ-loop
-unfolding firstBad
-loop-holds c =
-    let n = length (now (c .args .samples)) in
-    let e : n - 0 ≡ n = omega arith in
-    (omega arith, rw e)
+loop-holds c = (c .pre .0, first-from _ (c .args .from) (c .pre .0) (c .pre .1))
 
 mul-is-in-range : tie.Need-mul-is-in-range Inv-loop μ-loop
 mul-is-in-range c = search needs

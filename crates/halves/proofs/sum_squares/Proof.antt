@@ -13,8 +13,8 @@ use Rattle.rules.specs.Recorder.{sampleAt}
 use Rattle.rules.specs.Halves.{samplesOf, square}
 use Rattle.rules.proofs.Bounded.{sum-next}
 use Rattle.rules.proofs.Samples.{square-low}
-use Rattle.halves.specs.Windows.{squaresIn, sumsIn}
-use Rattle.halves.proofs.Windows.{window-squares-low}
+use Rattle.halves.specs.Steps.{squaresIn, sumsIn}
+use Rattle.halves.proofs.Parts.{squares-in-low}
 use Rattle.halves.proofs.sum_squares.Statement.{statement}
 use Rattle.halves.proofs.sum_squares.Tie as tie
 
@@ -42,7 +42,7 @@ square-is-low : (t : I) (c : ℕ) → c < 3 → square (x t c) ≤ 10000000000
 square-is-low t c l = square-low (x t c) (t .before .before .pre .1 (3 * at t + c) (omega arith))
 
 so-far : (t : I) (c : ℕ) → c < 3 → squaresIn (ws t) c (at t) ≤ at t * 10000000000
-so-far t c l = window-squares-low (ws t) (t .before .before .pre .1) c (at t) l (omega arith)
+so-far t c l = squares-in-low (ws t) (t .before .before .pre .1) c (at t) l (omega arith)
 
 -- what the three calls give
 is₁ : (c : tie.After-square Inv-loop μ-loop) → c .square .result ≡ square (x (c .before .before) 0)

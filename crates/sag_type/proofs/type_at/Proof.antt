@@ -8,9 +8,9 @@ use Rattle.rules.specs.Halves.{begin, sumsAt}
 use Rattle.rules.specs.Events.{typeOf}
 use Rattle.rules.proofs.Ranges.{good}
 use Rattle.rules.proofs.Samples.{accepted-recording, window-fits, Knows, knows, known-is}
-use Rattle.halves.specs.Windows.{window, Low}
+use Rattle.halves.specs.Steps.{window, Low}
 use Rattle.sag_type.specs.Six.{sixIn}
-use Rattle.halves.proofs.Windows.{window-few, window-ranged, window-missing, low-window}
+use Rattle.halves.proofs.Parts.{window-few, window-low}
 use Rattle.sag_type.proofs.Sixes.{six-in-low, window-six}
 use Rattle.sag_type.proofs.type_at.Statement.{statement}
 use Rattle.sag_type.proofs.type_at.Tie as tie
@@ -28,15 +28,16 @@ inside c =
     window-fits (a .s) xs (good (a .s) (c .pre .0)) (accepted-recording (a .s) xs (c .pre .1)) (a .k) (is-known c .exists)
 
 few : (c : tie.Start) → let a = c .args in length (window (a .s) (now (a .samples)) (a .k)) ≤ 1536
-few c = let a = c .args in window-few (a .s) (now (a .samples)) (a .k) (inside c) (good (a .s) (c .pre .0))
+few c =
+    let a = c .args in
+    let xs = now (a .samples) in
+    window-few (a .s) xs (good (a .s) (c .pre .0)) (accepted-recording (a .s) xs (c .pre .1)) (a .k) (is-known c .exists)
 
 is-low : (c : tie.Start) → let a = c .args in Low (window (a .s) (now (a .samples)) (a .k))
 is-low c =
     let a = c .args in
     let xs = now (a .samples) in
-    low-window (window (a .s) xs (a .k))
-    (window-ranged (a .s) xs (a .k) (inside c) (accepted-recording (a .s) xs (c .pre .1) .in-range))
-    (window-missing (a .s) xs (a .k) (inside c) ∙ is-known c .whole)
+    window-low (a .s) xs (good (a .s) (c .pre .0)) (accepted-recording (a .s) xs (c .pre .1)) (a .k) (is-known c .exists) (is-known c .whole)
 
 window-at-requires : tie.Need-window-at-requires
 window-at-requires c κs = inside c

@@ -1,0 +1,70 @@
+// Quiet half-cycles: known ones at which no event begins. Where nothing is going on they change nothing, and a loop of its own, with
+// few numbers to carry, passes over them.
+ghost use mathlib.Core.Path.{_≡_};
+ghost use mathlib.Core.Bool.{true, cond};
+ghost use Prim.Native.Nat.{_+_, _-_, _≤_};
+ghost use Rattle.rules.specs.Bounded.{firstNot};
+ghost use Rattle.rules.specs.Recorder.{settingsGood};
+ghost use Rattle.rules.specs.Halves.{halfAt};
+ghost use Rattle.checks.specs.Flags.{asRead};
+ghost use Rattle.halves.specs.Steps.{stepAt};
+ghost use Rattle.kinds.specs.Machine.{thresholdsOf, Few};
+ghost use Rattle.quiet.specs.Quiet.{isQuiet, quietBy, Reading};
+use halves::joined;
+use halves::step_at;
+use kinds::Thresholds;
+use numbers::max;
+use numbers::min;
+use rules::Half;
+use rules::Settings;
+
+// Where a quiet stretch ends: the first half-cycle that it does not hold, and the first step of that.
+pub struct Stretch {
+    pub k: u64,
+    pub step: Half,
+}
+
+// Whether a half-cycle is known and no event begins there. No interruption begins where no sag does.
+fn is_quiet(m: Thresholds, half: Half) -> bool
+    requires { ⌜ Few half ⌝ }
+    ensures { λ r. ⌜ r ≡ quietBy m half ⌝ }
+{
+    let Half::Known(v) = half else {
+        return false;
+    };
+    let sag = m.sag;
+    let swell = m.swell;
+    let least = min(min(v.a, v.b), v.c);
+    let greatest = max(max(v.a, v.b), v.c);
+    (sag.from <= 10000 * least) & (10000 * greatest <= swell.from)
+}
+
+// Passes over the quiet half-cycles from `from` on, whose first step is `first`, and stops at `to` or at the first that is not quiet.
+// Where an event is going on it passes over none.
+pub fn pass_quiet(
+    s: Settings,
+    m: Thresholds,
+    samples: &[i32],
+    going: bool,
+    from: u64,
+    to: u64,
+    first: Half,
+) -> Stretch
+    requires { ⌜ Reading s (now samples) m from to first ⌝ }
+    ensures { λ r. ⌜ (r .k ≡ cond going from (firstNot (λ k. isQuiet s (halfAt s (asRead (now (samples .entry))) k)) from (to - from))) × (r .step ≡ stepAt s (now (samples .entry)) (r .k)) ⌝ }
+{
+    let mut step = first;
+    let mut k = from;
+    if going {
+        return Stretch { k, step };
+    }
+    while k < to {
+        let next = step_at(s, samples, k + 1);
+        if !is_quiet(m, joined(step, next)) {
+            return Stretch { k, step };
+        }
+        step = next;
+        k += 1;
+    }
+    Stretch { k, step }
+}
