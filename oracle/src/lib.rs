@@ -2,8 +2,8 @@
 //! library takes and answers what that answers, so that the two can be compared number for number.
 //!
 //! Nothing here is clever: each window is summed anew, "in a sag at k" tries every j, the events are the longest runs of
-//! such half-cycles, sorted. `plain` is the same in linear time, as a yardstick for speed; `compare` hunts for
-//! differences from the proved library.
+//! such half-cycles, sorted. `plain` is the same in linear time, as one would ordinarily write it, and `swift` is written
+//! for speed: two yardsticks. `compare` hunts for differences from the proved library.
 pub mod cases;
 pub mod compare;
 pub mod kinds;
@@ -14,6 +14,7 @@ pub mod recording;
 pub mod score;
 pub mod settings;
 pub mod site;
+pub mod swift;
 
 pub use host::{Event, Refused, Score, Settings, Table, TABLE, WORDS};
 pub use list::list;

@@ -1,10 +1,12 @@
-//! The second table of cases, crates/rules/specs/Cases.antt: the file is what the second program writes, its linear form and
-//! the proved library give the same answers, and the cases reach every corner that can be told from an answer.
+//! The second table of cases, crates/rules/specs/Cases.antt: the file is what the second program writes, its linear and its
+//! swift form and the proved library give the same answers, and the cases reach every corner that can be told from an answer.
 use oracle::cases::{sections, text, Answer, Asked, Program, FILE, SECOND};
-use oracle::{plain, Settings};
+use oracle::{plain, swift, Settings};
 use std::collections::BTreeSet;
 
 const LINEAR: Program = Program { list: plain::list, add: plain::add, ..SECOND };
+
+const SWIFT: Program = Program { list: swift::list, add: swift::add, ..SECOND };
 
 const PROVED: Program = Program {
     list: host::list,
@@ -36,6 +38,7 @@ fn the_other_programs_give_the_same_answers() {
     for (name, asked) in all() {
         let expected = SECOND.answer(&asked).text();
         assert_eq!(LINEAR.answer(&asked).text(), expected, "the linear form, {name}");
+        assert_eq!(SWIFT.answer(&asked).text(), expected, "the swift form, {name}");
         assert_eq!(PROVED.answer(&asked).text(), expected, "the proved library, {name}");
     }
 }

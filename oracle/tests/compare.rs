@@ -1,7 +1,8 @@
-//! The gate's comparison of the proved library with the second program, and what it stands on: the linear form agrees with
-//! the naive one, and the drawn cases reach every corner of the rules. On the same cases: each interruption in one sag.
+//! The gate's comparison of the proved library with the second program, and what it stands on: the linear form and the swift
+//! one agree with the naive one, and the drawn cases reach every corner of the rules. On the same cases: each interruption
+//! in one sag.
 use oracle::compare::{draw, of_the_oracle, run, Case, Drawn, Report, Until};
-use oracle::{plain, recording, settings, site, Event, Settings};
+use oracle::{plain, recording, settings, site, swift, Event, Refused, Settings, Table};
 use std::collections::BTreeSet;
 use std::process::Command;
 
@@ -48,31 +49,68 @@ fn the_program_ends_with_the_report() {
     assert!(ran.status.success() && printed.ends_with(&format!("\n{report}\n")), "{printed}");
 }
 
-/// Half-cycles up to which the naive program is quick enough to hold the linear one to it.
+/// Half-cycles up to which the naive program is quick enough to hold the others to it.
 const SHORT: u64 = 400;
 
-#[test]
-fn the_linear_form_agrees_with_the_naive_one() {
-    let mut compared = 0;
-    for number in 0..10_000 {
-        match draw(SEED + 1, number).case {
-            Case::List { settings, samples, room } if short(&settings, &samples) => {
-                let (mut naive, mut linear) = (vec![7; room], vec![7; room]);
-                let answers =
-                    (oracle::list(&settings, &samples, &mut naive), plain::list(&settings, &samples, &mut linear));
-                assert_eq!((answers.0, naive), (answers.1, linear), "case {number}");
-                compared += 1;
+type Lister = fn(&Settings, &[i32], &mut [u64]) -> Result<u64, Refused>;
+type Adder = fn(&mut Table, &[i32]) -> Result<(), Refused>;
+
+/// One of the second program's forms.
+#[derive(Clone, Copy)]
+struct Form {
+    name: &'static str,
+    list: Lister,
+    add: Adder,
+}
+
+const NAIVE: Form = Form { name: "naive", list: oracle::list, add: oracle::add };
+const LINEAR: Form = Form { name: "linear", list: plain::list, add: plain::add };
+const SWIFT: Form = Form { name: "swift", list: swift::list, add: swift::add };
+
+impl Form {
+    fn assert_agrees(self, judge: Form, number: u64, case: &Case) {
+        let forms = [self, judge];
+        match case {
+            Case::List { settings, samples, room } => {
+                let [found, expected] = forms.map(|form| {
+                    let mut memory = vec![7; *room];
+                    ((form.list)(settings, samples, &mut memory), memory)
+                });
+                assert_eq!(found, expected, "{} and {}, case {number}", self.name, judge.name);
             }
-            Case::Add { table, samples } if short(&site::settings(&table), &samples) => {
-                let (mut naive, mut linear) = (table, table);
-                let answers = (oracle::add(&mut naive, &samples), plain::add(&mut linear, &samples));
-                assert_eq!((answers.0, naive), (answers.1, linear), "case {number}");
-                compared += 1;
+            Case::Add { table, samples } => {
+                let [found, expected] = forms.map(|form| {
+                    let mut grown = *table;
+                    ((form.add)(&mut grown, samples), grown)
+                });
+                assert_eq!(found, expected, "{} and {}, case {number}", self.name, judge.name);
             }
-            _ => {}
+            Case::Fresh { .. } | Case::Score { .. } => {}
         }
     }
-    assert!(compared > 5_000, "only {compared} compared");
+}
+
+/// On longer recordings the swift form is held to the linear one.
+#[test]
+fn the_linear_and_the_swift_form_agree_with_the_naive_one() {
+    let (mut held_to_naive, mut held_to_linear) = (0, 0);
+    for number in 0..10_000 {
+        let case = draw(SEED + 1, number).case;
+        let (settings, samples) = match &case {
+            Case::List { settings, samples, .. } => (*settings, samples),
+            Case::Add { table, samples } => (site::settings(table), samples),
+            Case::Fresh { .. } | Case::Score { .. } => continue,
+        };
+        if short(&settings, samples) {
+            LINEAR.assert_agrees(NAIVE, number, &case);
+            SWIFT.assert_agrees(NAIVE, number, &case);
+            held_to_naive += 1;
+        } else {
+            SWIFT.assert_agrees(LINEAR, number, &case);
+            held_to_linear += 1;
+        }
+    }
+    assert!(held_to_naive > 5_000 && held_to_linear > 4, "only {held_to_naive} and {held_to_linear} compared");
 }
 
 fn short(s: &Settings, samples: &[i32]) -> bool {

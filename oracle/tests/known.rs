@@ -1,4 +1,5 @@
-//! The known answers K1 to K12 of the rules, held against the second program, its linear form and the proved library.
+//! The known answers K1 to K12 of the rules, held against the second program, its linear and its swift form, and the proved
+//! library.
 use oracle::recording::MISSING;
 use oracle::site::at;
 use oracle::{Event, Refused, Settings, Table, TABLE};
@@ -13,9 +14,10 @@ fn blocks(levels: &[i32]) -> Vec<i32> {
 type Lister = fn(&Settings, &[i32], &mut [u64]) -> Result<u64, Refused>;
 type Adder = fn(&mut Table, &[i32]) -> Result<(), Refused>;
 
-const PROGRAMS: [(&str, Lister, Adder); 3] = [
+const PROGRAMS: [(&str, Lister, Adder); 4] = [
     ("second program", oracle::list, oracle::add),
     ("linear form", oracle::plain::list, oracle::plain::add),
+    ("swift form", oracle::swift::list, oracle::swift::add),
     ("proved library", host::list, host::add),
 ];
 

@@ -7,8 +7,12 @@ const SETTINGS: Settings = Settings { n: 128, r: 10_000, f: 50, sag: 90, interru
 type Lister = fn(&Settings, &[i32], &mut [u64]) -> Result<u64, Refused>;
 type Scorer = fn(&Settings, &Event) -> Result<Score, u64>;
 
-const LISTERS: [(&str, Lister); 3] =
-    [("second program", oracle::list), ("linear form", oracle::plain::list), ("proved library", host::list)];
+const LISTERS: [(&str, Lister); 4] = [
+    ("second program", oracle::list),
+    ("linear form", oracle::plain::list),
+    ("swift form", oracle::swift::list),
+    ("proved library", host::list),
+];
 
 const SCORERS: [(&str, Scorer); 2] = [("second program", oracle::score), ("proved library", host::score)];
 
