@@ -20,7 +20,7 @@ use Rattle.rules.specs.declared.Taken.{Taken}
 use Rattle.rules.specs.declared.Taken.the-variants.{Accepted, Refused}
 use Rattle.rules.proofs.Booleans.{cases}
 use Rattle.rules.proofs.Bounded.{all-at, all-true}
-use Rattle.rules.proofs.Samples.{accepted-recording}
+use Rattle.rules.proofs.Samples.{accepted-recording, both-accept}
 use Rattle.checks.specs.Flags.{shapeCheck, rangeCheck, odd, allInRange, RangedBelow, readAs, asRead}
 use Rattle.checks.proofs.Tests.{bad-is}
 
@@ -136,3 +136,11 @@ module _ (s : Settings) (xs : List ℤ) (shaped : shapeCheck s xs ≡ Accepted) 
 
   pub read-accepted : AcceptedRecording s (asRead xs)
   read-accepted = accepted-recording s (asRead xs) read-taken
+
+-- of an accepted recording
+module _ (s : Settings) (xs : List ℤ) (taken : recordingCheck s xs ≡ Accepted) where
+  pub accepted-shape : shapeCheck s xs ≡ Accepted
+  accepted-shape = both-accept (shapeCheck s xs) (rangeCheck xs) (sym (check-parts s xs) ∙ taken) .0
+
+  pub accepted-itself : asRead xs ≡ xs
+  accepted-itself = read-itself xs (ranged-all xs (length xs) (omega arith) (accepted-recording s xs taken .in-range))

@@ -10,13 +10,16 @@ use lib.ListN.{length}
 use lib.IntN.{ℤ}
 use Rattle.rules.specs.Recorder.{settingsGood, badSetting}
 use Rattle.rules.specs.EventList.{eventsOf, flat}
-use Rattle.rules.specs.Refusals.{settingsCheck, recordingCheck, roomCheck, listCheck, andThen, listed, written}
+use Rattle.rules.specs.Refusals.{settingsCheck, recordingCheck, roomCheck, listCheck, andThen, byCheck, listed, written}
+use Rattle.checks.specs.Flags.{shapeCheck, rangeCheck}
+use Rattle.checks.proofs.Reading.{check-parts}
 use Rattle.rules.proofs.Order.{flat-length}
 use Rattle.rules.specs.declared.Settings.{Settings}
 use Rattle.rules.specs.declared.Refusal.{Refusal}
 use Rattle.rules.specs.declared.Refusal.the-variants.{Setting, Room}
 use Rattle.rules.specs.declared.Taken.{Taken}
 use Rattle.rules.specs.declared.Taken.the-variants.{Accepted, Refused}
+use Rattle.rules.specs.declared.Listed.{Listed}
 use Rattle.rules.specs.declared.Listed.the-variants.{Events, Turned}
 use Rattle.list.specs.Listing.{over}
 
@@ -40,22 +43,53 @@ settings-good s e = rw e
 module _ (s : Settings) (xs : List ℤ) where
   -- ---- a refusal before the room is looked at
 
-  check-turned : (r : Refusal) (room : ℕ) → andThen (settingsCheck s) (recordingCheck s xs) ≡ Refused r → listCheck s xs room ≡ Refused r
+  check-turned : (r : Refusal) (room : ℕ) → andThen (settingsCheck s) (shapeCheck s xs) ≡ Refused r → listCheck s xs room ≡ Refused r
   unfolding listCheck
-  check-turned r room e = either (settingsCheck s) (recordingCheck s xs) e
+  check-turned r room e = rw (check-parts s xs) (either (settingsCheck s) (shapeCheck s xs) e)
     where
-      either : (a b : Taken) → andThen a b ≡ Refused r → andThen a (andThen b (roomCheck s xs room)) ≡ Refused r
+      either : (a b : Taken) → andThen a b ≡ Refused r → andThen a (andThen (andThen b (rangeCheck xs)) (roomCheck s xs room)) ≡ Refused r
       either Accepted Accepted e = absurd (never r (sym e))
       either Accepted (Refused q) e = e
       either (Refused q) b e = e
 
-  pub list-turned : (r : Refusal) (room : ℕ) → andThen (settingsCheck s) (recordingCheck s xs) ≡ Refused r → Turned r ≡ listed s xs room
+  pub list-turned : (r : Refusal) (room : ℕ) → andThen (settingsCheck s) (shapeCheck s xs) ≡ Refused r → Turned r ≡ listed s xs room
   unfolding listed
   list-turned r room e = rw (check-turned r room e)
 
-  pub run-turned : (r : Refusal) (out : List ℕ) → andThen (settingsCheck s) (recordingCheck s xs) ≡ Refused r → out ≡ written s xs out
+  pub run-turned : (r : Refusal) (out : List ℕ) → andThen (settingsCheck s) (shapeCheck s xs) ≡ Refused r → out ≡ written s xs out
   unfolding written
   run-turned r out e = rw (check-turned r (length out) e)
+
+  -- ---- what the counting pass tells: how many events there are, or refusal 6
+
+  module _ (l : Listed) (told : l ≡ byCheck (recordingCheck s xs) (Events (length (eventsOf s xs))) (λ q. Turned q)) where
+    -- one or the other
+    pub counted : (n : ℕ) → l ≡ Events n → (recordingCheck s xs ≡ Accepted) × (n ≡ length (eventsOf s xs))
+    counted n e = by (recordingCheck s xs) refl
+      where
+        by : (c : Taken) → recordingCheck s xs ≡ c → (c ≡ Accepted) × (n ≡ length (eventsOf s xs))
+        by Accepted f = let i : Events n ≡ Events (length (eventsOf s xs)) = sym e ∙ told ∙ rw f in (refl, cc)
+        by (Refused q) f = let i : Events n ≡ Turned q = sym e ∙ told ∙ rw f in let z : _≡_ {A = ℕ} 0 1 = cc in absurd (omega arith)
+
+    module _ (good : settingsGood s ≡ true) (q : Refusal) (e : l ≡ Turned q) where
+      refused : recordingCheck s xs ≡ Refused q
+      refused = by (recordingCheck s xs) refl
+        where
+          by : (c : Taken) → recordingCheck s xs ≡ c → c ≡ Refused q
+          by Accepted f = let i : Turned q ≡ Events (length (eventsOf s xs)) = sym e ∙ told ∙ rw f in let z : _≡_ {A = ℕ} 0 1 = cc in absurd (omega arith)
+          by (Refused r) f = let i : Turned q ≡ Turned r = sym e ∙ told ∙ rw f in cc
+
+      check-bad : (room : ℕ) → listCheck s xs room ≡ Refused q
+      unfolding listCheck
+      check-bad room = rw (settings-good s good, refused)
+
+      pub list-bad : (room : ℕ) → l ≡ listed s xs room
+      unfolding listed
+      list-bad room = rw (check-bad room) e
+
+      pub run-bad : (out : List ℕ) → out ≡ written s xs out
+      unfolding written
+      run-bad out = rw (check-bad (length out))
 
   -- ---- an accepted recording
 

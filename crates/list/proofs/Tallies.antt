@@ -1,6 +1,6 @@
 -- The counting pass counts the list: the tally before half-cycle k has the events that start before it. Assumes nothing.
 use Prim.Native.Nat.{ℕ, zero, suc, _+_, _*_, _≤_, _<_}
-use mathlib.Core.Path.{_≡_, sym, _∙_}
+use mathlib.Core.Path.{_≡_, sym, ap, _∙_}
 use mathlib.Core.Bool.{false, _||_}
 use mathlib.Core.List.{List}
 use mathlib.Core.Logic.{⊎-elim}
@@ -60,12 +60,15 @@ module _ (s : Settings) (h : ℕ → Half) where
   -- nothing goes on where the tally says so
   pub none-open : (t : Tally) (k : ℕ) → t ≡ tallyOf s h k → goingOn t ≡ false → (kind : Kind) → before (inEvent s h kind) k ≡ false
   unfolding tallyOf
-  none-open t k e f = by (neither _ _ (rw e at f) .0) (neither _ _ (rw e at f) .1)
+  none-open t k e f =
+      let g : before (inEvent s h Sag) k || before (inEvent s h Interruption) k || before (inEvent s h Swell) k ≡ false = sym (ap goingOn e) ∙ f in
+      let i = neither (before (inEvent s h Sag) k || before (inEvent s h Interruption) k) (before (inEvent s h Swell) k) g in
+      by (i .0) (i .1)
     where
       by : before (inEvent s h Sag) k || before (inEvent s h Interruption) k ≡ false → before (inEvent s h Swell) k ≡ false
           → (kind : Kind) → before (inEvent s h kind) k ≡ false
-      by p q Sag = neither _ _ p .0
-      by p q Interruption = neither _ _ p .1
+      by p q Sag = neither (before (inEvent s h Sag) k) (before (inEvent s h Interruption) k) p .0
+      by p q Interruption = neither (before (inEvent s h Sag) k) (before (inEvent s h Interruption) k) p .1
       by p q Swell = q
 
 pub tally-all : (s : Settings) (xs : List ℤ) (k : ℕ) → k ≡ halvesOf s xs → tallyOf s (halfAt s xs) k .n ≡ length (eventsOf s xs)

@@ -1,7 +1,7 @@
 -- The writing pass writes the list: once every slot that waits has its words, the run holds the events that start before
 -- half-cycle k. A turn keeps this, and in the end no slot waits. Assumes nothing.
-use Prim.Native.Nat.{ℕ, zero, suc, _+_, _*_, _≤_, _<_}
-use mathlib.Core.Path.{_≡_, refl, sym, ap, _∙_}
+use Prim.Native.Nat.{ℕ, zero, suc, _+_, _-_, _*_, _≤_, _<_}
+use mathlib.Core.Path.{_≡_, refl, sym, ap, subst, _∙_}
 use mathlib.Core.Bool.{Bool, true, false, not, _&&_, cond, false≢true}
 use mathlib.Core.Logic.{⊎-elim}
 use mathlib.Core.List.{List, [], _∷_, _++_, append-assoc, append-nil}
@@ -211,6 +211,18 @@ module _ (s : Settings) (xs : List ℤ) where
       either true = length-sets out (8 * p .slot) (words kind p)
       either false = refl
 
+  out-length : (k : ℕ) (p : Pass) (out : List ℕ) → length (turnedOut s xs k p out) ≡ length out
+  unfolding turnedOut
+  out-length k p out =
+      length-closes Swell k (p .swell) (closes s xs Interruption k (p .interruption) (closes s xs Sag k (p .sag) out))
+      ∙ length-closes Interruption k (p .interruption) (closes s xs Sag k (p .sag) out)
+      ∙ length-closes Sag k (p .sag) out
+
+  pub outs-length : (k d : ℕ) (p : Pass) (out : List ℕ) → length (turnsOut s xs k d p out) ≡ length out
+  unfolding turnsOut
+  outs-length k zero p out = refl
+  outs-length k (suc d) p out = out-length (k + d) (turns s xs k d p) (turnsOut s xs k d p out) ∙ outs-length k d p out
+
   pub length-at : (kind : Kind) (k : ℕ) → length (flat (eventAt s xs kind k)) ≡ 8 * bit (starts s h kind k)
   unfolding eventAt
   length-at kind k = either (starts s h kind k)
@@ -330,8 +342,7 @@ module _ (s : Settings) (xs : List ℤ) where
         record {
           known-before = refl;
           few = omega (arith, w .few, bit-le (starts s h Sag k), bit-le (starts s h Interruption k), bit-le (starts s h Swell k));
-          same =
-              length-closes Swell k (p .swell) out₂ ∙ length-closes Interruption k (p .interruption) out₁ ∙ length-closes Sag k (p .sag) out ∙ w .same;
+          same = out-length k p out ∙ w .same;
           size = size₃;
           sag = refl;
           interruption = refl;
@@ -440,3 +451,17 @@ module _ (s : Settings) (xs : List ℤ) where
       ∙ not-waiting Sag (p .sag) out i)
       ∙ w .whole
       ∙ ap (λ (x : List ℕ). over x o₀) (ap wordsBelow e ∙ below-all)
+
+  -- ---- many turns: what they ask, and where they lead
+
+  module _ (k : ℕ) (p : Pass) (out o₀ : List ℕ) (w : Writing k p out o₀) (room : length (flat (eventsOf s xs)) ≤ length o₀) where
+    pub turns-ready : (d : ℕ) → k + d ≤ halvesOf s xs → ReadyAll s xs (k + d) (turns s xs k d p) (length out)
+    turns-ready d l =
+        subst (ReadyAll s xs (k + d) (turns s xs k d p)) (outs-length k d p out)
+        (writing-ready (k + d) (turns s xs k d p) (turnsOut s xs k d p out) o₀ (writing-turns k d p out o₀ w (omega arith) room)
+        (le-trans (below-fits (k + d) (omega arith)) room))
+
+    pub turns-written : (j : ℕ) → k ≤ j → j ≤ suc (halvesOf s xs) → (q : Pass) (o : List ℕ) → q ≡ turns s xs k (j - k) p → o ≡ turnsOut s xs k (j - k) p out → Writing j q o o₀
+    turns-written j l u q o e f =
+        let i : k + (j - k) ≡ j = omega arith in
+        rw (e, f) (subst (λ (x : ℕ). Writing x (turns s xs k (j - k) p) (turnsOut s xs k (j - k) p out) o₀) i (writing-turns k (j - k) p out o₀ w (omega arith) room))

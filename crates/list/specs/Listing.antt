@@ -1,9 +1,9 @@
 -- The two passes of the lister, as the code runs them: over the machine's states. proofs/ ties them to the rules.
-use Prim.Native.Nat.{ℕ, zero, suc, _+_, _*_, _/_, _≤_, _<_}
+use Prim.Native.Nat.{ℕ, zero, suc, _+_, _-_, _*_, _/_, _≤_, _<_, min}
 use mathlib.Core.Path.{_≡_}
 use mathlib.Core.Bool.{Bool, true, false, not, _&&_, _||_, cond}
 use mathlib.Core.List.{List, _++_}
-use lib.ListN.{length, getD, drop}
+use lib.ListN.{length, getD, set, drop}
 use lib.Seq.{sets}
 use lib.IntN.{ℤ}
 use Rattle.rules.specs.Bounded.{before, bit, count}
@@ -26,6 +26,7 @@ use Rattle.kinds.specs.declared.Thresholds.{Thresholds}
 use Rattle.kinds.specs.declared.Level.{Level}
 use Rattle.list.specs.declared.Tally.{Tally}
 use Rattle.list.specs.declared.Counted.{Counted}
+use Rattle.list.specs.declared.Written.{Written}
 use Rattle.list.specs.declared.Pending.{Pending}
 use Rattle.list.specs.declared.Visited.{Visited}
 use Rattle.list.specs.declared.Pass.{Pass}
@@ -61,23 +62,33 @@ tallyOf s h k =
 abbrev pub goingOn : Tally → Bool
 goingOn t = t .sag || t .interruption || t .swell
 
--- what counting a group of half-cycles asks: the tally before it, and that all samples up to its first step are in range
-pub record Counting (s : Settings) (xs : List ℤ) (m : Thresholds) (t : Tally) (first : Half) (from to : ℕ) : Type 0 where
-  pub reading : Reading s xs m from to first
+-- what counting on from half-cycle `from` asks: the tally before it, and that all samples up to its first step are in range
+pub record Counting (s : Settings) (xs : List ℤ) (m : Thresholds) (halves : ℕ) (t : Tally) (first : Half) (from : ℕ) : Type 0 where
+  pub reading : Reading s xs m from halves first
+  pub halves-are : halves ≡ halvesOf s xs
+  pub more : from < halves
   pub tally : t ≡ tallyOf s (halfAt s (asRead xs)) from
   pub in-range : RangedBelow xs (3 * begin s (suc from))
 
--- what it finds, of the recording as it is read
-pub record CountedTo (s : Settings) (xs : List ℤ) (from to : ℕ) (r : Counted) : Type 0 where
-  pub tally : r .tally ≡ tallyOf s (halfAt s (asRead xs)) to
-  pub step : r .step ≡ stepAt s xs to
-  pub in-range : r .good ≡ true → RangedBelow xs (3 * begin s (suc to))
+-- what it finds, of the recording as it is read: at the half-cycles passed nothing goes on, but for the last, where that is noted
+pub record CountedTo (s : Settings) (xs : List ℤ) (from : ℕ) (r : Counted) : Type 0 where
+  pub more : from < r .k
+  pub high : r .k ≤ halvesOf s xs
+  pub tally : r .tally ≡ tallyOf s (halfAt s (asRead xs)) (r .k)
+  pub step : r .step ≡ stepAt s xs (r .k)
+  pub in-range : r .good ≡ true → RangedBelow xs (3 * begin s (suc (r .k)))
+  pub before-bad : RangedBelow xs (3 * begin s (r .k))
   pub bad : r .good ≡ false → allInRange xs ≡ false
-  pub resting : r .noted ≡ false → (k : ℕ) → from ≤ k → k < to → Resting s (halfAt s (asRead xs)) k
+  pub resting : (k : ℕ) → from ≤ k → k + bit (r .noted) < r .k → Resting s (halfAt s (asRead xs)) k
 
--- a note speaks of eight half-cycles: where there is none, nothing goes on
-abbrev pub Noted : Settings → List ℤ → List Bool → Type 0
-Noted s xs notes = (k : ℕ) → k < halvesOf s xs → getD notes (k / 8) false ≡ false → Resting s (halfAt s xs) k
+-- a note for the group of four in which half-cycle k lies
+unfoldable pub notedAt : List Bool → ℕ → Bool → List Bool
+notedAt notes k noted = set notes (k / 4) (getD notes (k / 4) false || noted)
+
+-- where there is no note, nothing goes on; and there is one for half-cycle H, which does not exist
+pub record Noted (s : Settings) (xs : List ℤ) (notes : List Bool) : Type 0 where
+  pub resting : (k : ℕ) → k < halvesOf s xs → getD notes (k / 4) false ≡ false → Resting s (halfAt s xs) k
+  pub last : getD notes (halvesOf s xs / 4) false ≡ true
 
 -- ---- the writing pass
 
@@ -163,19 +174,52 @@ unfoldable pub turnsOut : Settings → List ℤ → ℕ → ℕ → Pass → Lis
 turnsOut s xs k zero p out = out
 turnsOut s xs k (suc d) p out = turnedOut s xs (k + d) (turns s xs k d p) (turnsOut s xs k d p out)
 
--- nothing has changed but that the half-cycle before is known
-abbrev pub rested : Pass → Pass
-rested p = record { known = true; n = p .n; sag = p .sag; interruption = p .interruption; swell = p .swell }
+-- nothing has changed but that the half-cycle before is known, if there are any that are passed over
+abbrev pub rested : Pass → Bool → Pass
+rested p any = record { known = p .known || any; n = p .n; sag = p .sag; interruption = p .interruption; swell = p .swell }
 
--- what a group of half-cycles asks: each of its turns is ready, and where it is not noted nothing goes on
-pub record WritingGroup (s : Settings) (xs : List ℤ) (m : Thresholds) (noted : Bool) (from to : ℕ) (p : Pass) (room : ℕ) : Type 0 where
+-- what reading half-cycle k asks
+pub record Readable (s : Settings) (xs : List ℤ) (halves : ℕ) (step : Half) (k : ℕ) : Type 0 where
+  pub good-settings : settingsGood s ≡ true
+  pub accepted : recordingCheck s xs ≡ Accepted
+  pub halves-are : halves ≡ halvesOf s xs
+  pub high : k ≤ halves
+  pub step-is : step ≡ stepAt s xs k
+
+-- what a run of half-cycles asks: each of its turns is ready
+pub record Running (s : Settings) (xs : List ℤ) (m : Thresholds) (halves from to : ℕ) (p : Pass) (room : ℕ) : Type 0 where
   pub good-settings : settingsGood s ≡ true
   pub accepted : recordingCheck s xs ≡ Accepted
   pub thresholds : m ≡ thresholdsOf s
+  pub halves-are : halves ≡ halvesOf s xs
   pub some : from < to
-  pub high : to ≤ halvesOf s xs
+  pub high : to ≤ suc halves
   pub ready : (d : ℕ) → from + d < to → ReadyAll s xs (from + d) (turns s xs from d p) room
-  pub resting : noted ≡ false → (k : ℕ) → from ≤ k → k < to → Resting s (halfAt s xs) k
+
+abbrev pub differs : Bool → Bool → Bool
+differs true b = not b
+differs false b = b
+
+-- what the pass asks that stands before group g: each turn from there on is ready, and the notes are right
+pub record WritingOn (s : Settings) (xs : List ℤ) (m : Thresholds) (halves : ℕ) (notes : List Bool) (g : ℕ) (p : Pass) (room : ℕ) : Type 0 where
+  pub good-settings : settingsGood s ≡ true
+  pub accepted : recordingCheck s xs ≡ Accepted
+  pub thresholds : m ≡ thresholdsOf s
+  pub halves-are : halves ≡ halvesOf s xs
+  pub low : g < suc (halves / 4)
+  pub noted : Noted s xs notes
+  pub ready : (d : ℕ) → 4 * g + d ≤ halves → ReadyAll s xs (4 * g + d) (turns s xs (4 * g) d p) room
+
+-- the first half-cycle of group g, or the one after H
+abbrev pub groupStart : Settings → List ℤ → ℕ → ℕ
+groupStart s xs g = min (4 * g) (suc (halvesOf s xs))
+
+-- where it stands then: at a later group, with each turn up to that one done
+pub record WrittenTo (s : Settings) (xs : List ℤ) (g : ℕ) (p : Pass) (out : List ℕ) (r : Written) (out′ : List ℕ) : Type 0 where
+  pub later : g < r .group
+  pub high : r .group ≤ suc (halvesOf s xs / 4)
+  pub pass : r .pass ≡ turns s xs (4 * g) (groupStart s xs (r .group) - 4 * g) p
+  pub run : out′ ≡ turnsOut s xs (4 * g) (groupStart s xs (r .group) - 4 * g) p out
 
 -- o with e in its place at the front
 abbrev pub over : List ℕ → List ℕ → List ℕ

@@ -1,11 +1,11 @@
 // The event list: a pass that counts the events of all kinds and notes where something goes on, the room tested, and a pass that
 // goes where the notes say and writes each event where it belongs.
 ghost use mathlib.Core.Path.{_≡_};
-ghost use mathlib.Core.Bool.{true, not, _&&_};
-ghost use Prim.Native.Nat.{_+_, _-_, _*_, _≤_};
-ghost use lib.ListN.{length};
+ghost use mathlib.Core.Bool.{true, false, not, _&&_, cond};
+ghost use Prim.Native.Nat.{_+_, _-_, _*_, _≤_, _<_};
+ghost use lib.ListN.{length, getD};
 ghost use lib.Seq.{sets};
-ghost use Rattle.rules.specs.Bounded.{bit};
+ghost use Rattle.rules.specs.Bounded.{bit, firstNot};
 ghost use Rattle.rules.specs.Recorder.{settingsGood};
 ghost use Rattle.rules.specs.Halves.{known, halfAt, halvesOf};
 ghost use Rattle.rules.specs.Events.{three, sixSums, typeOf};
@@ -14,8 +14,10 @@ ghost use Rattle.rules.specs.Refusals.{settingsCheck, recordingCheck, andThen, 
 ghost use Rattle.rules.specs.declared.Taken.the-variants.{Accepted};
 ghost use Rattle.rules.specs.declared.Listed.the-variants.{Events, Turned};
 ghost use Rattle.checks.specs.Flags.{shapeCheck};
+ghost use Rattle.halves.specs.Steps.{stepAt};
+ghost use Rattle.quiet.specs.Quiet.{quietTill, Reading};
 ghost use Rattle.kinds.specs.Machine.{thresholdsOf, Marked, Few, Light, Finishable, seenNumber, finishedBy};
-ghost use Rattle.list.specs.Listing.{tallied, goingOn, Counting, CountedTo, Noted, Visiting, visited, closes, Turning, WritingGroup, startPass, rested, turned, turnedOut, turns, turnsOut, over};
+ghost use Rattle.list.specs.Listing.{tallied, goingOn, Counting, CountedTo, notedAt, Noted, Visiting, visited, closes, Turning, Readable, Running, differs, WritingOn, WrittenTo, startPass, rested, turned, turnedOut, turns, turnsOut, over};
 use checks::check_settings;
 use checks::check_shape;
 use checks::count_halves;
@@ -34,6 +36,7 @@ use kinds::step;
 use kinds::thresholds_of;
 use numbers::copy;
 use numbers::min;
+use quiet::Stretch;
 use quiet::pass_quiet;
 use rules::Event;
 use rules::Half;
@@ -75,13 +78,26 @@ pub struct Pass {
     pub swell: Pending,
 }
 
-// What counting a group of half-cycles finds: the tally and the step after it, whether all of its samples are in range, and whether
-// something goes on in it.
+// How far the counting pass has come: the tally before half-cycle k and that one's first step; whether all samples so far are in range;
+// and whether something goes on at half-cycle k - 1.
 pub struct Counted {
     pub tally: Tally,
     pub step: Half,
+    pub k: u64,
     pub good: bool,
     pub noted: bool,
+}
+
+// A half-cycle as the writing pass reads it, and the step after it.
+pub struct Read {
+    pub half: Half,
+    pub step: Half,
+}
+
+// The state of the writing pass, and the group of half-cycles that it stands before.
+pub struct Written {
+    pub pass: Pass,
+    pub group: u64,
 }
 
 // 1 where an event starts.
@@ -123,52 +139,84 @@ fn is_open(t: Tally) -> bool
     t.sag | t.interruption | t.swell
 }
 
-// Counts the events that start in a group of half-cycles, `from` to `to`, whose first step is `first`: the quiet ones at its front are
-// passed over, and the machine takes the rest.
-fn count_group(
+// The first half-cycle from `from` on for the machine: where nothing is going on the quiet ones are passed over.
+fn calm_from(
     s: Settings,
     m: Thresholds,
+    halves: u64,
     samples: &[i32],
     t: Tally,
     first: Half,
     from: u64,
-    to: u64,
-) -> Counted
-    requires { ⌜ Counting s (now samples) m t first from to ⌝ }
-    ensures { λ r. ⌜ CountedTo s (now (samples .entry)) from to r ⌝ }
+) -> Stretch
+    requires { ⌜ Reading s (now samples) m from halves first ⌝ }
+    ensures { λ r. ⌜ (r .k ≡ cond (goingOn t) from (quietTill s (now (samples .entry)) from halves)) × (r .step ≡ stepAt s (now (samples .entry)) (r .k)) ⌝ }
 {
-    let calm = pass_quiet(s, m, samples, is_open(t), from, to, first);
-    let mut tally = t;
-    let mut step = calm.step;
-    let mut good = true;
-    let mut k = calm.k;
-    while k < to {
-        let next = step_at(s, samples, k + 1);
-        good = good & step_in_range(s, samples, k + 1, next);
-        tally = count_turn(m, tally, joined(step, next));
-        step = next;
-        k += 1;
+    if is_open(t) {
+        return Stretch {
+            k: from,
+            step: first,
+        };
     }
+    pass_quiet(s, m, samples, from, halves, first)
+}
+
+// Counts on from half-cycle `from`: the quiet ones are passed over, and the machine takes the next.
+fn count_next(
+    s: Settings,
+    m: Thresholds,
+    halves: u64,
+    samples: &[i32],
+    t: Tally,
+    first: Half,
+    from: u64,
+) -> Counted
+    requires { ⌜ Counting s (now samples) m halves t first from ⌝ }
+    ensures { λ r. ⌜ CountedTo s (now (samples .entry)) from r ⌝ }
+{
+    let calm = calm_from(s, m, halves, samples, t, first, from);
+    let step = calm.step;
+    let k = calm.k;
+    if k == halves {
+        return Counted {
+            tally: t,
+            step,
+            k,
+            good: true,
+            noted: false,
+        };
+    }
+    let next = step_at(s, samples, k + 1);
     Counted {
-        tally,
-        step,
-        good,
-        noted: calm.k < to,
+        tally: count_turn(m, t, joined(step, next)),
+        step: next,
+        k: k + 1,
+        good: step_in_range(s, samples, k + 1, next),
+        noted: true,
     }
 }
 
-// How many events a recording of good length has, or refusal 6, which is told as soon as a bad sample is met. A group of half-cycles
-// in which something goes on is noted.
+// A note for the group of four in which half-cycle k lies, where something goes on at k.
+fn note(notes: &mut [bool; 25001], k: u64, noted: bool)
+    requires { ⌜ k ≤ 100000 ⌝ }
+    ensures { λ r. ⌜ now (notes .exit) ≡ notedAt (now (notes .entry)) k noted ⌝ }
+{
+    let g = (k / 4) as usize;
+    notes[g] = notes[g] | noted;
+}
+
+// How many events a recording of good length has, or refusal 6, which is told as soon as a bad sample is met. Each group of four
+// half-cycles in which something goes on is noted, and so is that of half-cycle H, which ends what is still going on.
 fn count_events(
     s: Settings,
     m: Thresholds,
     halves: u64,
     samples: &[i32],
-    notes: &mut [bool; 12500],
+    notes: &mut [bool; 25001],
 ) -> Listed
-    requires { ⌜ (settingsGood s ≡ true) × (shapeCheck s (now samples) ≡ Accepted) × (halves ≡ halvesOf s (now samples)) × (m ≡ thresholdsOf s) ⌝ }
+    requires { ⌜ (settingsGood s ≡ true) × (shapeCheck s (now samples) ≡ Accepted) × (halves ≡ halvesOf s (now samples)) × (m ≡ thresholdsOf s) × (length (now notes) ≡ 25001) ⌝ }
     ensures { λ r. ⌜ r ≡ byCheck (recordingCheck s (now (samples .entry))) (Events (length (eventsOf s (now (samples .entry))))) (λ q. Turned q) ⌝ }
-    ensures { λ r. ⌜ recordingCheck s (now (samples .entry)) ≡ Accepted → Noted s (now (samples .entry)) (now (notes .exit)) ⌝ }
+    ensures { λ r. ⌜ (recordingCheck s (now (samples .entry)) ≡ Accepted → Noted s (now (samples .entry)) (now (notes .exit))) ⌝ }
 {
     let mut t = Tally {
         sag: false,
@@ -180,18 +228,18 @@ fn count_events(
     if !step_in_range(s, samples, 0, step) {
         return Listed::Turned(bad_sample(s, samples, 0));
     }
-    let mut g: u64 = 0;
-    while 8 * g < halves {
-        let from = 8 * g;
-        let group = count_group(s, m, samples, t, step, from, min(from + 8, halves));
-        if !group.good {
-            return Listed::Turned(bad_sample(s, samples, from));
+    let mut k: u64 = 0;
+    while k < halves {
+        let counted = count_next(s, m, halves, samples, t, step, k);
+        if !counted.good {
+            return Listed::Turned(bad_sample(s, samples, counted.k));
         }
-        notes[g as usize] = group.noted;
-        t = group.tally;
-        step = group.step;
-        g += 1;
+        note(notes, counted.k - 1, counted.noted);
+        t = counted.tally;
+        step = counted.step;
+        k = counted.k;
     }
+    note(notes, halves, true);
     Listed::Events(t.n)
 }
 
@@ -394,15 +442,15 @@ fn start_pass() -> Pass
     }
 }
 
-// After half-cycles at which nothing goes on nothing has changed but that the one before is known.
-fn rest(p: Pass) -> Pass
-    ensures { λ r. ⌜ r ≡ rested p ⌝ }
+// After half-cycles at which nothing goes on, if there are any, nothing has changed but that the one before is known.
+fn rest(p: Pass, any: bool) -> Pass
+    ensures { λ r. ⌜ r ≡ rested p any ⌝ }
 {
     let sag = p.sag;
     let interruption = p.interruption;
     let swell = p.swell;
     Pass {
-        known: true,
+        known: p.known | any,
         n: p.n,
         sag,
         interruption,
@@ -410,44 +458,99 @@ fn rest(p: Pass) -> Pass
     }
 }
 
-// A group of half-cycles by all three kinds, where it is noted; else nothing goes on in it.
-fn write_group(
+// Half-cycle k, whose first step is `step`, and the step after it. Half-cycle H, which does not exist, is unknown.
+fn read_half(s: Settings, halves: u64, samples: &[i32], step: Half, k: u64) -> Read
+    requires { ⌜ Readable s (now samples) halves step k ⌝ }
+    ensures { λ r. ⌜ (r .half ≡ halfAt s (now (samples .entry)) k) × (k < halves → r .step ≡ stepAt s (now (samples .entry)) (k + 1)) ⌝ }
+{
+    if k == halves {
+        return Read {
+            half: Half::Unknown,
+            step,
+        };
+    }
+    let next = step_at(s, samples, k + 1);
+    Read {
+        half: joined(step, next),
+        step: next,
+    }
+}
+
+// Half-cycles `from` to `to` by all three kinds.
+fn write_run(
     s: Settings,
     m: Thresholds,
+    halves: u64,
     samples: &[i32],
-    noted: bool,
     p: Pass,
     from: u64,
     to: u64,
     out: &mut [u64],
 ) -> Pass
-    requires { ⌜ WritingGroup s (now samples) m noted from to p (length (now out)) ⌝ }
+    requires { ⌜ Running s (now samples) m halves from to p (length (now out)) ⌝ }
     ensures { λ r. ⌜ r ≡ turns s (now (samples .entry)) from (to - from) p ⌝ }
     ensures { λ r. ⌜ now (out .exit) ≡ turnsOut s (now (samples .entry)) from (to - from) p (now (out .entry)) ⌝ }
 {
-    if !noted {
-        return rest(p);
-    }
     let mut pass = p;
     let mut step = step_at(s, samples, from);
     let mut k = from;
     while k < to {
-        let next = step_at(s, samples, k + 1);
-        pass = turn(s, m, samples, joined(step, next), pass, k, out);
-        step = next;
+        let read = read_half(s, halves, samples, step, k);
+        let half = read.half;
+        pass = turn(s, m, samples, half, pass, k, out);
+        step = read.step;
         k += 1;
     }
     pass
 }
 
-// Writes the events of an accepted recording over the front of `out`, which has room for them. Half-cycle H, which does not
-// exist, ends what is still going on.
+// The first group from g on whose note is `noted`, or `groups`.
+fn next_group(notes: &[bool; 25001], groups: u64, g: u64, noted: bool) -> u64
+    requires { ⌜ (g ≤ groups) × (groups ≤ 25001) ⌝ }
+    ensures { λ r. ⌜ r ≡ firstNot (λ i. differs (getD (now (notes .entry)) i false) noted) g (groups - g) ⌝ }
+{
+    let mut i = g;
+    while i < groups {
+        if notes[i as usize] == noted {
+            return i;
+        }
+        i += 1;
+    }
+    i
+}
+
+// The next groups that are noted, one behind the other, by all three kinds; in the groups before them nothing goes on.
+fn write_next(
+    s: Settings,
+    m: Thresholds,
+    halves: u64,
+    samples: &[i32],
+    notes: &[bool; 25001],
+    p: Pass,
+    g: u64,
+    out: &mut [u64],
+) -> Written
+    requires { ⌜ WritingOn s (now samples) m halves (now notes) g p (length (now out)) ⌝ }
+    ensures { λ r. ⌜ WrittenTo s (now (samples .entry)) g p (now (out .entry)) r (now (out .exit)) ⌝ }
+{
+    let groups = halves / 4 + 1;
+    let from = next_group(notes, groups, g, true);
+    let to = next_group(notes, groups, from, false);
+    let calm = rest(p, g < from);
+    let end = min(4 * to, halves + 1);
+    Written {
+        pass: write_run(s, m, halves, samples, calm, 4 * from, end, out),
+        group: to,
+    }
+}
+
+// Writes the events of an accepted recording over the front of `out`, which has room for them.
 fn write_events(
     s: Settings,
     m: Thresholds,
     halves: u64,
     samples: &[i32],
-    notes: &[bool; 12500],
+    notes: &[bool; 25001],
     out: &mut [u64],
 )
     requires { ⌜ (settingsGood s ≡ true) × (recordingCheck s (now samples) ≡ Accepted) × (halves ≡ halvesOf s (now samples)) × (m ≡ thresholdsOf s) × Noted s (now samples) (now notes) × (length (flat (eventsOf s (now samples))) ≤ length (now out)) ⌝ }
@@ -455,21 +558,11 @@ fn write_events(
 {
     let mut p = start_pass();
     let mut g: u64 = 0;
-    while 8 * g < halves {
-        let from = 8 * g;
-        p = write_group(
-            s,
-            m,
-            samples,
-            notes[g as usize],
-            p,
-            from,
-            min(from + 8, halves),
-            out,
-        );
-        g += 1;
+    while g < halves / 4 + 1 {
+        let written = write_next(s, m, halves, samples, notes, p, g, out);
+        p = written.pass;
+        g = written.group;
     }
-    turn(s, m, samples, Half::Unknown, p, halves, out);
 }
 
 // Refusals 1 to 5, in their order.
@@ -491,7 +584,7 @@ fn list_shaped(s: Settings, samples: &[i32], out: &mut [u64]) -> Listed
 {
     let halves = count_halves(s, samples);
     let m = thresholds_of(s);
-    let mut notes: [bool; 12500] = [false; 12500];
+    let mut notes: [bool; 25001] = [false; 25001];
     let counted = count_events(s, m, halves, samples, &mut notes);
     let Listed::Events(total) = counted else {
         return counted;

@@ -8,7 +8,7 @@ use mathlib.Core.Logic.{⊎-elim}
 use native.Mathlib.Nat.{eq-or-lt-of-le}
 use native.Mathlib.Omega.{arith}
 use lib.IntN.{ℤ}
-use Rattle.rules.specs.Bounded.{before, firstNot}
+use Rattle.rules.specs.Bounded.{before}
 use Rattle.rules.specs.Halves.{begin, known, halfAt, halvesOf}
 use Rattle.rules.specs.Events.{inEvent}
 use Rattle.rules.specs.declared.Settings.{Settings}
@@ -24,7 +24,7 @@ use Rattle.halves.proofs.Steps.{half-of-steps, known-step, ranged-next}
 use Rattle.kinds.specs.Machine.{Few}
 use Rattle.kinds.specs.declared.Thresholds.{Thresholds}
 use Rattle.kinds.proofs.Limits.{few-half}
-use Rattle.quiet.specs.Quiet.{isQuiet, Resting, Reading}
+use Rattle.quiet.specs.Quiet.{isQuiet, quietTill, Resting, Reading}
 use Rattle.quiet.proofs.Quiet.{quietly, stretch-rests}
 
 -- the second of two steps that make a known half-cycle is known
@@ -54,25 +54,25 @@ module _ {s : Settings} {xs : List ℤ} {m : Thresholds} {from to : ℕ} {first 
       (known-step s xs g (r .shaped) (suc k) u (second-known (stepAt s xs k) (stepAt s xs (suc k)) (rw (half-here k l) e)))
 
   -- where the pass over quiet half-cycles stops
-  module _ (going : Bool) (stop : ℕ) (is : stop ≡ cond going from (firstNot (λ k. isQuiet s (h k)) from (to - from))) where
+  module _ (going : Bool) (stop : ℕ) (is : stop ≡ cond going from (quietTill s xs from to)) where
     pub stop-low : from ≤ stop
     stop-low = rw is (by going)
       where
-        by : (b : Bool) → from ≤ cond b from (firstNot (λ k. isQuiet s (h k)) from (to - from))
+        by : (b : Bool) → from ≤ cond b from (quietTill s xs from to)
         by true = omega arith
         by false = first-low (λ k. isQuiet s (h k)) from (to - from)
 
     pub stop-high : stop ≤ to
     stop-high = rw is (by going)
       where
-        by : (b : Bool) → cond b from (firstNot (λ k. isQuiet s (h k)) from (to - from)) ≤ to
+        by : (b : Bool) → cond b from (quietTill s xs from to) ≤ to
         by true = r .ordered
         by false = omega (arith, first-high (λ k. isQuiet s (h k)) from (to - from), r .ordered)
 
     quiet-till : (k : ℕ) → from ≤ k → k < stop → isQuiet s (h k) ≡ true
     quiet-till k l u = by going is
       where
-        by : (b : Bool) → stop ≡ cond b from (firstNot (λ k. isQuiet s (h k)) from (to - from)) → isQuiet s (h k) ≡ true
+        by : (b : Bool) → stop ≡ cond b from (quietTill s xs from to) → isQuiet s (h k) ≡ true
         by true e = absurd (omega arith)
         by false e = first-between (λ k. isQuiet s (h k)) from (to - from) k l (omega arith)
 

@@ -1,13 +1,13 @@
 -- Quiet half-cycles, in the words of the rules and as the code tests them; and half-cycles at which nothing goes on.
-use Prim.Native.Nat.{ℕ, suc, _*_, _≤_}
+use Prim.Native.Nat.{ℕ, _-_, _*_, _≤_}
 use mathlib.Core.Path.{_≡_}
 use mathlib.Core.Bool.{Bool, true, false, not, _&&_}
 use mathlib.Core.List.{List}
 use lib.Dec.{leb}
 use lib.IntN.{ℤ}
-use Rattle.rules.specs.Bounded.{before}
+use Rattle.rules.specs.Bounded.{before, firstNot}
 use Rattle.rules.specs.Recorder.{settingsGood}
-use Rattle.rules.specs.Halves.{known, halvesOf}
+use Rattle.rules.specs.Halves.{known, halfAt, halvesOf}
 use Rattle.rules.specs.Events.{begins, inEvent, least, greatest}
 use Rattle.rules.specs.declared.Settings.{Settings}
 use Rattle.rules.specs.declared.Half.{Half}
@@ -15,7 +15,7 @@ use Rattle.rules.specs.declared.Half.the-variants.{Unknown, Known}
 use Rattle.rules.specs.declared.Kind.{Kind}
 use Rattle.rules.specs.declared.Kind.the-variants.{Sag, Interruption, Swell}
 use Rattle.rules.specs.declared.Taken.the-variants.{Accepted}
-use Rattle.checks.specs.Flags.{shapeCheck}
+use Rattle.checks.specs.Flags.{shapeCheck, asRead}
 use Rattle.halves.specs.Steps.{stepAt}
 use Rattle.kinds.specs.Machine.{thresholdsOf}
 use Rattle.kinds.specs.declared.Thresholds.{Thresholds}
@@ -28,6 +28,10 @@ isQuiet s v = known v && not (begins s Sag v) && not (begins s Interruption v) &
 unfoldable pub quietBy : Thresholds → Half → Bool
 quietBy m Unknown = false
 quietBy m (Known v) = leb (m .sag .from) (10000 * least v) && leb (10000 * greatest v) (m .swell .from)
+
+-- the first half-cycle from `from` on that is not quiet, or `to`, in the recording as it is read
+abbrev pub quietTill : Settings → List ℤ → ℕ → ℕ → ℕ
+quietTill s xs from to = firstNot (λ k. isQuiet s (halfAt s (asRead xs) k)) from (to - from)
 
 -- nothing goes on at half-cycle k: it is known, and neither it nor the one before lies in an event
 pub record Resting (s : Settings) (h : ℕ → Half) (k : ℕ) : Type 0 where

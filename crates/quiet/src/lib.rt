@@ -1,15 +1,9 @@
 // Quiet half-cycles: known ones at which no event begins. Where nothing is going on they change nothing, and a loop of its own, with
 // few numbers to carry, passes over them.
 ghost use mathlib.Core.Path.{_≡_};
-ghost use mathlib.Core.Bool.{true, cond};
-ghost use Prim.Native.Nat.{_+_, _-_, _≤_};
-ghost use Rattle.rules.specs.Bounded.{firstNot};
-ghost use Rattle.rules.specs.Recorder.{settingsGood};
-ghost use Rattle.rules.specs.Halves.{halfAt};
-ghost use Rattle.checks.specs.Flags.{asRead};
 ghost use Rattle.halves.specs.Steps.{stepAt};
-ghost use Rattle.kinds.specs.Machine.{thresholdsOf, Few};
-ghost use Rattle.quiet.specs.Quiet.{isQuiet, quietBy, Reading};
+ghost use Rattle.kinds.specs.Machine.{Few};
+ghost use Rattle.quiet.specs.Quiet.{quietBy, quietTill, Reading};
 use halves::joined;
 use halves::step_at;
 use kinds::Thresholds;
@@ -39,25 +33,20 @@ fn is_quiet(m: Thresholds, half: Half) -> bool
     (sag.from <= 10000 * least) & (10000 * greatest <= swell.from)
 }
 
-// Passes over the quiet half-cycles from `from` on, whose first step is `first`, and stops at `to` or at the first that is not quiet.
-// Where an event is going on it passes over none.
+// Passes over the quiet half-cycles from `from` on, whose first step is `first`, and stops at the first that is not quiet, or at `to`.
 pub fn pass_quiet(
     s: Settings,
     m: Thresholds,
     samples: &[i32],
-    going: bool,
     from: u64,
     to: u64,
     first: Half,
 ) -> Stretch
     requires { ⌜ Reading s (now samples) m from to first ⌝ }
-    ensures { λ r. ⌜ (r .k ≡ cond going from (firstNot (λ k. isQuiet s (halfAt s (asRead (now (samples .entry))) k)) from (to - from))) × (r .step ≡ stepAt s (now (samples .entry)) (r .k)) ⌝ }
+    ensures { λ r. ⌜ (r .k ≡ quietTill s (now (samples .entry)) from to) × (r .step ≡ stepAt s (now (samples .entry)) (r .k)) ⌝ }
 {
     let mut step = first;
     let mut k = from;
-    if going {
-        return Stretch { k, step };
-    }
     while k < to {
         let next = step_at(s, samples, k + 1);
         if !is_quiet(m, joined(step, next)) {

@@ -1,4 +1,4 @@
--- The settings are checked first, and the recording where they are accepted. Assumes nothing.
+-- The settings are checked first, and the length where they are accepted. Assumes nothing.
 use mathlib.Core.Path.{sym, _∙_}
 use borrow.Author.Needs.{needs}
 use Rattle.list.proofs.check.Statement.{statement}
@@ -10,14 +10,14 @@ check-settings-requires c κs = search needs
 enum-told : tie.Need-enum-told
 enum-told c = search needs
 
-check-recording-requires : tie.Need-check-recording-requires
-check-recording-requires c κs = search needs
+check-shape-requires : tie.Need-check-shape-requires
+check-shape-requires c κs = search needs
 
 enum-known-settings : tie.Need-enum-known-settings
 enum-known-settings c = search needs
 
 returns : tie.Need-returns
-returns c = rw (sym (c .before .before .before .check-settings .ensures) ∙ c .before .enum-told .given .1) (c .check-recording .ensures)
+returns c = rw (sym (c .before .before .before .check-settings .ensures) ∙ c .before .enum-told .given .1) (c .check-shape .ensures)
 
 returns-2 : tie.Need-returns-2
 returns-2 c = rw (sym (c .before .before .before .check-settings .ensures) ∙ c .before .settings .given .1)
@@ -28,7 +28,7 @@ check-spec =
     (tie.spec
     check-settings-requires
     enum-told
-    check-recording-requires
+    check-shape-requires
     enum-known-settings
     returns
     returns-2)

@@ -1,7 +1,8 @@
--- What is accepted goes to `list_accepted`; a refusal is that of the list, and nothing is written. Assumes nothing.
+-- What is accepted goes to `list_shaped`; a refusal is that of the list, and nothing is written. Assumes nothing.
 use mathlib.Core.Path.{sym, _∙_}
 use denote.Ref.{now}
-use Rattle.rules.specs.Refusals.{settingsCheck, recordingCheck}
+use Rattle.rules.specs.Refusals.{settingsCheck}
+use Rattle.checks.specs.Flags.{shapeCheck}
 use Rattle.rules.proofs.Samples.{both-accept}
 use Rattle.list.proofs.Answers.{settings-accepted, list-turned, run-turned}
 use borrow.Author.Needs.{needs}
@@ -14,12 +15,12 @@ check-requires c κs = search needs
 enum-told : tie.Need-enum-told
 enum-told c = search needs
 
-list-accepted-requires : tie.Need-list-accepted-requires
-list-accepted-requires c κs =
+list-shaped-requires : tie.Need-list-shaped-requires
+list-shaped-requires c κs =
     let checked = c .before .before .before in
     let a = checked .before .before .args in
     let r =
-    both-accept (settingsCheck (a .s)) (recordingCheck (a .s) (now (a .samples))) (sym (checked .check .ensures) ∙ c .before .enum-told .given .1) in
+    both-accept (settingsCheck (a .s)) (shapeCheck (a .s) (now (a .samples))) (sym (checked .check .ensures) ∙ c .before .enum-told .given .1) in
     (settings-accepted _ (r .0), r .1)
 
 enum-known-checked : tie.Need-enum-known-checked
@@ -42,7 +43,7 @@ list-spec =
     (tie.spec
     check-requires
     enum-told
-    list-accepted-requires
+    list-shaped-requires
     enum-known-checked
     same-length
     returns

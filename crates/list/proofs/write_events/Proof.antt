@@ -1,71 +1,92 @@
--- The invariant: once every slot that waits has its words, the run holds the events that start before half-cycle k; past half-cycle H no slot
--- waits. The measure is what is left of the half-cycles, H among them. Assumes nothing.
-use Prim.Native.Nat.{ℕ, suc, _+_, _-_, _≤_}
-use native.Mathlib.Nat.{le-trans}
-use mathlib.Core.Path.{_≡_}
-use native.Mathlib.Numerals.{add-one}
+-- The invariant: once every slot that waits has its words, the run holds the events that start before group g; past the last group no slot
+-- waits. The measure is what is left of the groups. Assumes nothing.
+use Prim.Native.Nat.{ℕ, suc, _+_, _-_, _*_, _/_, _≤_, _<_}
+use mathlib.Core.Path.{_≡_, sym, subst}
 use native.Mathlib.Omega.{arith}
 use borrow.Author.Needs.{needs}
 use denote.Ref.{now}
-use lib.ListN.{length}
 use Rattle.rules.specs.Halves.{halvesOf}
 use Rattle.rules.proofs.Samples.{accepted-recording}
-use Rattle.list.proofs.Writing.{Writing, writing-start, writing-next, writing-ready, writing-done, wordsBelow, below-fits}
+use Rattle.list.specs.Listing.{groupStart}
+use Rattle.list.proofs.Writing.{Writing, writing-start, writing-done, turns-ready, turns-written}
 use Rattle.list.proofs.write_events.Statement.{statement}
 use Rattle.list.proofs.write_events.Tie as tie
 
 abbrev Inv-loop : tie.InvT-loop
-Inv-loop s m halves samples out₀ p₀ k₀ out p k = (k ≤ halves + 1) × Writing s samples k p out out₀
+Inv-loop s m halves samples notes out₀ p₀ g₀ out p g = (g ≤ halves / 4 + 1) × Writing s samples (groupStart s samples g) p out out₀
 
 abbrev μ-loop : tie.MeasureT-loop
-μ-loop s m halves samples out₀ p₀ k₀ out p k = halves + 1 - k
+μ-loop s m halves samples notes out₀ p₀ g₀ out p g = halves / 4 + 1 - g
 
--- there is room for what starts before half-cycle k, up to the one after the last
-fits : (c : tie.Start Inv-loop μ-loop) (k : ℕ) → k ≤ c .args .halves + 1
-    → length (wordsBelow (c .args .s) (now (c .args .samples)) k) ≤ length (now (c .args .out))
-fits c k l =
-    let u : k ≤ suc (halvesOf (c .args .s) (now (c .args .samples))) = omega (arith, c .pre .2) in
-    le-trans (below-fits (c .args .s) (now (c .args .samples)) k u) (c .pre .4)
+-- in a turn: where it stands
+abbrev I : Type 0
+I = tie.In-loop Inv-loop μ-loop
+
+abbrev start : I → tie.Start Inv-loop μ-loop
+start t = t .before .before .before .before
+
+few : (c : tie.Start Inv-loop μ-loop) → c .args .halves ≤ 100000
+few c = omega (arith, c .pre .2, accepted-recording _ _ (c .pre .1) .few)
+
+-- before a group there are four half-cycles for each
+here : (t : I) → let a = start t .args in Writing (a .s) (now (a .samples)) (4 * t .before .loop .g) (t .before .loop .p) (t .before .loop .out) (now (a .out))
+here t =
+    let a = start t .args in
+    let l = t .before .loop in
+    let e : groupStart (a .s) (now (a .samples)) (l .g) ≡ 4 * l .g = omega (arith, t .loop-test .taken, start t .pre .2) in
+    subst (λ (k : ℕ). Writing (a .s) (now (a .samples)) k (l .p) (l .out) (now (a .out))) e (l .inv .1)
 
 start-pass-requires : tie.Need-start-pass-requires Inv-loop μ-loop
 start-pass-requires c κs = search needs
 
 loop-holds : tie.Need-loop-holds Inv-loop μ-loop
-loop-holds c = (omega arith, writing-start _ _ _ _ (c .start-pass .ensures))
+loop-holds c =
+    let a = c .before .before .args in
+    let e : 0 ≡ groupStart (a .s) (now (a .samples)) 0 = omega arith in
+    (omega arith, subst (λ (k : ℕ). Writing (a .s) (now (a .samples)) k (c .start-pass .result) (now (a .out)) (now (a .out))) e (writing-start _ _ _ _ (c .start-pass .ensures)))
 
-turn-requires : tie.Need-turn-requires Inv-loop μ-loop
-turn-requires c κs =
-    let s = c .before .before .before .before .before in
-    let l = c .before .before .loop in
-    let k : l .k ≤ s .args .halves = omega arith in
-    (s .pre .0, s .pre .1, s .pre .2, s .pre .3, k, writing-ready _ _ _ _ _ _ (l .inv .1) (fits s (l .k) (omega arith)))
+add-loop : tie.Need-add-loop Inv-loop μ-loop
+add-loop c = omega (arith, few (c .before .before .before))
 
-add-k : tie.Need-add-k Inv-loop μ-loop
-add-k c =
-    let test = c .before .before .before .before in
-    let p = test .before .before .before .before .pre in
-    omega (arith, p .2, accepted-recording _ _ (p .1) .few, test .loop-test .taken)
+write-next-requires : tie.Need-write-next-requires Inv-loop μ-loop
+write-next-requires c κs =
+    let t = c .before in
+    let s = start t in
+    record {
+      good-settings = s .pre .0;
+      accepted = s .pre .1;
+      thresholds = s .pre .3;
+      halves-are = s .pre .2;
+      low = omega (arith, t .loop-test .taken);
+      noted = s .pre .4;
+      ready = λ d l. turns-ready _ _ _ _ _ _ (here t) (s .pre .5) d (omega (arith, l, s .pre .2));
+    }
 
 loop-less : tie.Need-loop-less Inv-loop μ-loop
-loop-less c = search needs
+loop-less c =
+    let w = c .before .before .before in
+    let t = w .before .before in
+    omega (arith, w .write-next .ensures .later, w .write-next .ensures .high, start t .pre .2)
 
 loop-again : tie.Need-loop-again Inv-loop μ-loop
 loop-again c =
-    let r = c .before .before .turn .ensures in
-    let test = c .before .before .before .before in
-    let l = test .before .loop in
-    let s = test .before .before .before .before in
-    let k : l .k ≤ s .args .halves = omega (arith, test .loop-test .taken) in
-    (omega arith, rw (add-one, r .0, r .1) (writing-next _ _ _ _ _ _ (l .inv .1) (fits s (suc (l .k)) (omega arith))))
+    let w = c .before .before .before in
+    let t = w .before .before in
+    let s = start t in
+    let r = w .write-next .ensures in (
+      omega (arith, r .high, s .pre .2),
+      turns-written _ _ _ _ _ _ (here t) (s .pre .5) _ (omega (arith, r .later, t .loop-test .taken, s .pre .2)) (omega arith) _ _ (r .pass) (r .run),
+    )
 
 same-length : tie.Need-same-length Inv-loop μ-loop
 same-length c = search needs
 
 returns : tie.Need-returns Inv-loop μ-loop
 returns c =
-    let s = c .before .before .before .before in
     let l = c .before .loop in
-    let k : l .k ≡ suc (halvesOf (s .args .s) (now (s .args .samples))) = omega (arith, s .pre .2) in
+    let s = c .before .before .before .before in
+    let k : groupStart (s .args .s) (now (s .args .samples)) (l .g) ≡ suc (halvesOf (s .args .s) (now (s .args .samples))) =
+    omega (arith, c .loop-test .left, s .pre .2) in
     writing-done _ _ _ _ _ _ k (l .inv .1)
 
 pub write-events-spec : {M : Type 1} → statement M
@@ -76,8 +97,8 @@ write-events-spec =
     μ-loop
     start-pass-requires
     loop-holds
-    turn-requires
-    add-k
+    add-loop
+    write-next-requires
     loop-less
     loop-again
     same-length

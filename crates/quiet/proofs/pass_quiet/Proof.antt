@@ -27,26 +27,19 @@ use Rattle.quiet.proofs.pass_quiet.Tie as tie
 abbrev quiet : Settings → List ℤ → ℕ → Bool
 quiet s xs k = isQuiet s (halfAt s (asRead xs) k)
 
--- what a test chose
-first-chosen : (b : Bool) (x y : ℕ) → b ≡ true → x ≡ cond b x y
-first-chosen b x y e = rw e
-
-second-chosen : (b : Bool) (x y : ℕ) → b ≡ false → y ≡ cond b x y
-second-chosen b x y e = rw e
-
 abbrev Inv-loop : tie.InvT-loop
-Inv-loop s m samples going from to step₀ k₀ step k =
+Inv-loop s m samples from to step₀ k₀ step k =
     (k ≤ to) × (step ≡ stepAt s samples k) × (firstNot (quiet s samples) k (to - k) ≡ firstNot (quiet s samples) from (to - from))
 
 abbrev μ-loop : tie.MeasureT-loop
-μ-loop s m samples going from to step₀ k₀ step k = to - k
+μ-loop s m samples from to step₀ k₀ step k = to - k
 
 -- in a turn: where it stands
 abbrev I : Type 0
 I = tie.In-loop Inv-loop μ-loop
 
 abbrev start : I → tie.Start Inv-loop μ-loop
-start t = t .before .before .before
+start t = t .before .before
 
 abbrev at : I → ℕ
 at t = t .before .loop .k
@@ -71,11 +64,8 @@ told c =
     let s = start (c .before .before .before) in
     quiet-told _ (good _ (s .pre .good-settings)) _ _ _ _ (s .pre .thresholds) (half-is (c .before)) (c .is-quiet .ensures)
 
-returns : tie.Need-returns Inv-loop μ-loop
-returns c = (first-chosen _ _ _ (c .if1 .taken), c .before .pre .step)
-
 loop-holds : tie.Need-loop-holds Inv-loop μ-loop
-loop-holds c = (c .before .pre .ordered, c .before .pre .step, refl)
+loop-holds c = (c .pre .ordered, c .pre .step, refl)
 
 add-step-at : tie.Need-add-step-at Inv-loop μ-loop
 add-step-at c = omega (arith, below c)
@@ -96,13 +86,12 @@ joined-requires c κs =
 is-quiet-requires : tie.Need-is-quiet-requires Inv-loop μ-loop
 is-quiet-requires c κs = rw (half-is c) (few-here (start (c .before .before) .pre) _)
 
-returns-2 : tie.Need-returns-2 Inv-loop μ-loop
-returns-2 c =
+returns : tie.Need-returns Inv-loop μ-loop
+returns c =
     let t = c .before .before .before .before in
     let s = start t in (
-      sym (first-stop (quiet (s .args .s) (now (s .args .samples))) (at t) (s .args .to) (below t) (sym (told (c .before)) ∙ not-true _ (c .if2 .taken)))
-          ∙ t .before .loop .inv .2
-          ∙ second-chosen _ _ _ (t .before .before .if1 .left),
+      sym (first-stop (quiet (s .args .s) (now (s .args .samples))) (at t) (s .args .to) (below t) (sym (told (c .before)) ∙ not-true _ (c .if1 .taken)))
+          ∙ t .before .loop .inv .2,
       t .before .loop .inv .1,
     )
 
@@ -118,18 +107,17 @@ loop-again c =
     let s = start t in (
       omega (arith, below t),
       c .before .before .before .step-at .ensures,
-      sym (first-go (quiet (s .args .s) (now (s .args .samples))) (at t) (s .args .to) (below t) (sym (told (c .before)) ∙ not-false _ (c .if2 .left)))
+      sym (first-go (quiet (s .args .s) (now (s .args .samples))) (at t) (s .args .to) (below t) (sym (told (c .before)) ∙ not-false _ (c .if1 .left)))
           ∙ t .before .loop .inv .2,
     )
 
-returns-3 : tie.Need-returns-3 Inv-loop μ-loop
-returns-3 c =
+returns-2 : tie.Need-returns-2 Inv-loop μ-loop
+returns-2 c =
     let l = c .before .loop in
-    let s = c .before .before .before in
+    let s = c .before .before in
     let e : l .k ≡ s .args .to = omega (arith, c .loop-test .left) in (
       sym (first-end (quiet (s .args .s) (now (s .args .samples))) (l .k) (s .args .to) e)
-          ∙ l .inv .2
-          ∙ second-chosen _ _ _ (c .before .before .if1 .left),
+          ∙ l .inv .2,
       l .inv .1,
     )
 
@@ -139,14 +127,13 @@ pass-quiet-spec =
     (tie.spec
     Inv-loop
     μ-loop
-    returns
     loop-holds
     add-step-at
     step-at-requires
     joined-requires
     is-quiet-requires
-    returns-2
+    returns
     add-k
     loop-less
     loop-again
-    returns-3)
+    returns-2)
