@@ -37,7 +37,7 @@ use Rattle.survey.proofs.Surveys.{bit-and, lands, landing, lands-at, se
 
 -- ---- cells
 
-cells-same : (f g : ℕ → ℕ) → ((i : ℕ) → f i ≡ g i) → (cs : List ℕ) (i : ℕ) → cellsFrom f cs i ≡ cellsFrom g cs i
+pub cells-same : (f g : ℕ → ℕ) → ((i : ℕ) → f i ≡ g i) → (cs : List ℕ) (i : ℕ) → cellsFrom f cs i ≡ cellsFrom g cs i
 cells-same f g e [] i = refl
 cells-same f g e (x ∷ cs) i = rw (e i, cells-same f g e cs (suc i))
 

@@ -2,3 +2,5 @@
 pub mod Surveys
 pub mod Gains
 pub mod Passes
+pub mod Rests
+pub mod Groups

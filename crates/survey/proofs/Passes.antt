@@ -4,7 +4,6 @@ use mathlib.Core.Path.{_≡_, refl, sym, ap, _∙_}
 use mathlib.Core.Bool.{Bool, true, false, not, _&&_, _||_}
 use mathlib.Core.List.{List}
 use native.Mathlib.Nat.{zero-add}
-use native.Mathlib.Numerals.{add-one}
 use native.Mathlib.Omega.{arith}
 use lib.IntN.{ℤ}
 use lib.ListN.{replicate}
@@ -32,10 +31,10 @@ use Rattle.survey.specs.declared.Classes.{Classes}
 use Rattle.survey.specs.declared.Starts.{Starts}
 use Rattle.survey.specs.declared.Landed.{Landed}
 use Rattle.survey.specs.declared.Survey.{Survey}
-use Rattle.kinds.specs.Machine.{levelOf, opens, Going, Light}
-use Rattle.survey.specs.Pass.{trackedBy, classedBy, startedBy, landedBy, cellsBy, Landable, Surveying, trackAt, classesAt, startsAt, landed, landedAt, cellsAt, surveyAt, startSurvey}
-use Rattle.kinds.proofs.Machine.{level-known, inside-is}
-use Rattle.kinds.proofs.Limits.{opens-light, level-light, extreme-low}
+use Rattle.kinds.specs.Machine.{thresholdsOf, levelFrom, levelOf, opens, Going, Light}
+use Rattle.survey.specs.Pass.{trackedBy, goingOn, classedBy, startedBy, landedBy, cellsBy, Landable, surveyedBy, cellsTurned, Turnable, trackAt, classesAt, startsAt, landed, landedAt, cellsAt, surveyAt, startSurvey}
+use Rattle.kinds.proofs.Machine.{level-is, level-known, inside-is}
+use Rattle.kinds.proofs.Limits.{marked, few-half, opens-light, level-light, extreme-low}
 use Rattle.survey.proofs.Surveys.{track-next, classes-next, starts-next, lands, landing, landed-at-next}
 use Rattle.survey.proofs.Gains.{cells-next, unplaced-few, cells-few, shortfall-low, unplaced-all, shortfall-all, cells-all}
 
@@ -96,9 +95,9 @@ module _ (s : Settings) (xs : List ℤ) (good-settings : settingsGood s ≡ true
 
   -- the state after half-cycle k
   pub survey-next : (k : ℕ) (t : Track) (c : Classes) (b : Starts) (d : Landed) → t ≡ trackAt s h (suc k) → c ≡ classesAt s h (suc k) → b ≡ startsAt s h (suc k)
-      → d ≡ landedAt s h n (suc k) → _≡_ {A = Survey} (record { track = t; classes = c; starts = b; landed = d }) (surveyAt s h n (k + 1))
+      → d ≡ landedAt s h n (suc k) → _≡_ {A = Survey} (record { track = t; classes = c; starts = b; landed = d }) (surveyAt s h n (suc k))
   unfolding surveyAt
-  survey-next k t c b d e f i j = rw (add-one, e, f, i, j)
+  survey-next k t c b d e f i j = rw (e, f, i, j)
 
   -- the parts of the state
   pub record Parts (k : ℕ) (p : Survey) : Type 0 where
@@ -161,53 +160,72 @@ module _ (s : Settings) (xs : List ℤ) (good-settings : settingsGood s ≡ true
 
 -- ---- a turn
 
-module _ (s : Settings) (xs : List ℤ) (m : Thresholds) (halves k : ℕ) (p : Survey) (cs : List ℕ) (v : Surveying s xs m halves k p cs)
-    (l : Level) (l-is : l ≡ levelOf s (halfAt s xs k)) where
-  inside : k ≤ halvesOf s xs
-  inside = omega (arith, v .inside, v .count-is)
+module _ (s : Settings) (xs : List ℤ) (good-settings : settingsGood s ≡ true) (accepted : recordingCheck s xs ≡ Accepted) (m : Thresholds) (v : Half)
+    (p : Survey) (k : ℕ) (cs : List ℕ) (thresholds : m ≡ thresholdsOf s) (half : v ≡ halfAt s xs k) (inside : k ≤ halvesOf s xs)
+    (state : p ≡ surveyAt s (halfAt s xs) (halvesOf s xs) k) (cells-are : cs ≡ cellsAt s (halfAt s xs) (halvesOf s xs) k) where
+  are : Parts s xs good-settings accepted k p
+  are = parts s xs good-settings accepted k p state
 
-  are : Parts s xs (v .good-settings) (v .accepted) k p
-  are = parts s xs (v .good-settings) (v .accepted) k p (v .state)
+  -- its level, and the track after it
+  module _ (l : Level) (l-is : l ≡ levelOf s (halfAt s xs k)) (is : Track) (followed : is ≡ trackedBy m k (p .track) l) where
+    known-here : l .known ≡ known (halfAt s xs k)
+    known-here = rw l-is (level-known s (halfAt s xs k))
 
-  known-here : l .known ≡ known (halfAt s xs k)
-  known-here = rw l-is (level-known s (halfAt s xs k))
+    ask-follow : Light (p .track .sag .short) × Light (l .short)
+    ask-follow = rw (l-is, are .track) (follow-ready s xs good-settings accepted k inside)
 
-  pub ask-follow : Light (p .track .sag .short) × Light (l .short)
-  ask-follow = rw (l-is, are .track) (follow-ready s xs (v .good-settings) (v .accepted) k inside)
-
-  pub ask-classify : (p .classes .healthy ≤ 4000000) × (p .classes .disturbed ≤ 4000000) × (p .classes .unknown ≤ 4000000)
-  ask-classify = rw (are .classes) (classes-few s xs (v .good-settings) (v .accepted) k inside)
-
-  pub ask-starts : (p .starts .sags ≤ 4000000) × (p .starts .interruptions ≤ 4000000) × (p .starts .swells ≤ 4000000)
-  ask-starts = rw (are .starts-are) (starts-few s xs (v .good-settings) (v .accepted) k inside)
-
-  module _ (is : Track) (followed : is ≡ trackedBy m k (p .track) l) where
     next : is ≡ trackAt s (halfAt s xs) (suc k)
-    next = followed ∙ rw (v .thresholds, are .track, l-is) (track-next s (halfAt s xs) k)
+    next = followed ∙ rw (thresholds, are .track, l-is) (track-next s (halfAt s xs) k)
 
-    any-is : (is .sag .inside || is .interruption || is .swell) ≡ inAny s (halfAt s xs) k
+    any-is : goingOn is ≡ inAny s (halfAt s xs) k
     unfolding trackAt
     any-is = rw (next, inside-is s (halfAt s xs) Sag (suc k))
 
     ends : (p .track .sag .inside && not (is .sag .inside)) ≡ lands s (halfAt s xs) (halvesOf s xs) (half-past s xs) Sag k
-    ends = rw (are .track, next) (ends-is s xs (v .good-settings) (v .accepted) k)
+    ends = rw (are .track, next) (ends-is s xs good-settings accepted k)
 
-    pub ask-land : Landable s (p .landed) (p .track .sag .inside && not (is .sag .inside)) (p .track .sag) k cs
-    ask-land = rw (ends, are .landed, are .track, v .cells-are) (landable s xs (v .good-settings) (v .accepted) k inside)
+    ask-land : Landable s (p .landed) (p .track .sag .inside && not (is .sag .inside)) (p .track .sag) k cs
+    ask-land = rw (ends, are .landed, are .track, cells-are) (landable s xs good-settings accepted k inside)
 
-    pub turn-made : (c : Classes) (b : Starts) (d : Landed) → c ≡ classedBy (p .classes) (l .known) (is .sag .inside || is .interruption || is .swell)
-        → b ≡ startedBy (p .starts) (p .track) is → d ≡ landedBy (p .landed) (p .track .sag .inside && not (is .sag .inside)) (p .track .sag) (l .known)
-        → _≡_ {A = Survey} (record { track = is; classes = c; starts = b; landed = d }) (surveyAt s (halfAt s xs) (halvesOf s xs) (k + 1))
-    turn-made c b d e f i =
-        survey-next s xs (v .good-settings) (v .accepted) k is c b d next
-        (e ∙ rw (known-here, any-is, are .classes) (classes-next s (halfAt s xs) k))
-        (f ∙ rw (are .starts-are, are .track, next) (starts-next s (halfAt s xs) k))
-        (i ∙ rw (ends, known-here, are .landed, are .track) (landed-after s xs (v .good-settings) (v .accepted) k inside))
+    made : _≡_ {A = Survey} (record {
+      track = is;
+      classes = classedBy (p .classes) (l .known) (goingOn is);
+      starts = startedBy (p .starts) (p .track) is;
+      landed = landedBy (p .landed) (p .track .sag .inside && not (is .sag .inside)) (p .track .sag) (l .known);
+    }) (surveyAt s (halfAt s xs) (halvesOf s xs) (suc k))
+    made =
+        survey-next s xs good-settings accepted k _ _ _ _ next
+        (rw (known-here, any-is, are .classes) (classes-next s (halfAt s xs) k))
+        (rw (are .starts-are, are .track, next) (starts-next s (halfAt s xs) k))
+        (rw (ends, known-here, are .landed, are .track) (landed-after s xs good-settings accepted k inside))
 
-    pub turn-cells : (cs′ : List ℕ) → cs′ ≡ cellsBy s (p .track .sag .inside && not (is .sag .inside)) (p .track .sag) k (l .known) cs
-        → cs′ ≡ cellsAt s (halfAt s xs) (halvesOf s xs) (k + 1)
-    turn-cells cs′ e =
-        rw add-one (e ∙ rw (ends, known-here, are .track, v .cells-are) (cells-after s xs (v .good-settings) (v .accepted) k inside))
+    cells-made : cellsBy s (p .track .sag .inside && not (is .sag .inside)) (p .track .sag) k (l .known) cs ≡ cellsAt s (halfAt s xs) (halvesOf s xs) (suc k)
+    cells-made = rw (ends, known-here, are .track, cells-are) (cells-after s xs good-settings accepted k inside)
+
+  abbrev l : Level
+  l = levelFrom (m .full) (m .sag .from) v
+
+  l-is : l ≡ levelOf s (halfAt s xs k)
+  l-is = level-is s m v (halfAt s xs k) l thresholds half refl
+
+  pub turnable : Turnable s m v p k cs
+  turnable =
+      record {
+        marked = rw thresholds (marked s (good s good-settings));
+        few = rw half (few-half s xs (good s good-settings) (accepted-recording s xs accepted) k);
+        follow = ask-follow l l-is _ refl;
+        classes-few = rw (are .classes) (classes-few s xs good-settings accepted k inside);
+        starts-few = rw (are .starts-are) (starts-few s xs good-settings accepted k inside);
+        landable = ask-land l l-is _ refl;
+      }
+
+  pub turn-made : surveyedBy m v p k ≡ surveyAt s (halfAt s xs) (halvesOf s xs) (suc k)
+  unfolding surveyedBy
+  turn-made = made l l-is _ refl
+
+  pub turn-cells : cellsTurned s m v p k cs ≡ cellsAt s (halfAt s xs) (halvesOf s xs) (suc k)
+  unfolding cellsTurned
+  turn-cells = cells-made l l-is _ refl
 
 -- ---- the last landing: half-cycle H, which does not exist
 

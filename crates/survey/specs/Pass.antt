@@ -10,11 +10,15 @@ use Rattle.rules.specs.Bounded.{before, bit, count}
 use Rattle.rules.specs.Recorder.{settingsGood}
 use Rattle.rules.specs.Halves.{begin, known, halfAt, halvesOf}
 use Rattle.rules.specs.Events.{inEvent, starts, endOf, startSeen, endSeen, shortsOf, three}
-use Rattle.rules.specs.Site.{cells, cellAt, isHealthy, isDisturbed, isUnknown, sagCell, cellsFrom}
+use Rattle.rules.specs.Site.{cells, cellAt, isHealthy, isDisturbed, isUnknown, sagCell, cellsFrom, empty, grown}
+use Rattle.rules.specs.Refusals.{recordingCheck, byCheck}
 use Rattle.rules.specs.declared.Settings.{Settings}
 use Rattle.rules.specs.declared.Half.{Half}
 use Rattle.rules.specs.declared.Kind.{Kind}
 use Rattle.rules.specs.declared.Kind.the-variants.{Sag, Interruption, Swell}
+use Rattle.rules.specs.declared.Refusal.{Refusal}
+use Rattle.rules.specs.declared.Site.{Site as Handed}
+use Rattle.rules.specs.declared.Taken.the-variants.{Refused}
 use Rattle.checks.specs.Flags.{allInRange, RangedBelow, asRead}
 use Rattle.halves.specs.Steps.{stepAt}
 use Rattle.kinds.specs.Machine.{levelFrom, goesBy, stepBy, closed, opens, Marked, Few, Light}
@@ -224,3 +228,15 @@ pub record SurveyedTo (s : Settings) (xs : List ℤ) (to : ℕ) (r : Surveyed) (
   pub step : r .step ≡ stepAt s xs to
   pub in-range : r .good ≡ true → RangedBelow xs (3 * begin s (suc to))
   pub bad : r .good ≡ false → allInRange xs ≡ false
+
+-- ---- the whole recording
+
+-- a refusal, beside an empty table
+abbrev pub turnedAway : Settings → Refusal → Handed
+turnedAway s r = record { answer = Refused r; table = empty s }
+
+-- what the checks of the recording answer, and its table where they accept it
+unfoldable pub tabled : Settings → List ℤ → Handed
+tabled s xs =
+    let check = recordingCheck s xs in
+    record { answer = check; table = byCheck check (grown (empty s) xs) (λ r. empty s) }

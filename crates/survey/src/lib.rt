@@ -5,13 +5,11 @@ ghost use Prim.Native.Nat.{_+_, _≤_};
 ghost use Rattle.rules.specs.Bounded.{bit};
 ghost use Rattle.rules.specs.Recorder.{settingsGood};
 ghost use Rattle.rules.specs.Events.{three};
-ghost use Rattle.rules.specs.Site.{empty, grown};
-ghost use Rattle.rules.specs.Refusals.{recordingCheck, byCheck};
+ghost use Rattle.rules.specs.Site.{empty};
 ghost use Rattle.rules.specs.declared.Taken.the-variants.{Accepted};
 ghost use Rattle.checks.specs.Flags.{shapeCheck};
 ghost use Rattle.kinds.specs.Machine.{Light};
-ghost use Rattle.survey.specs.declared.Tabled.the-variants.{Whole, Turned};
-ghost use Rattle.survey.specs.Pass.{trackedBy, classedBy, startedBy, landedBy, cellsBy, Placeable, Landable, Turnable, surveyedBy, cellsTurned, goingOn, passedOver, Surveying, SurveyedTo, startSurvey};
+ghost use Rattle.survey.specs.Pass.{trackedBy, classedBy, startedBy, landedBy, cellsBy, Placeable, Landable, Turnable, surveyedBy, cellsTurned, goingOn, passedOver, Surveying, SurveyedTo, startSurvey, turnedAway, tabled};
 use checks::count_halves;
 use halves::bad_sample;
 use halves::joined;
@@ -31,8 +29,10 @@ use rules::Half;
 use rules::Kind;
 use rules::Refusal;
 use rules::Settings;
+use rules::Site;
 use rules::Sums;
 use rules::Table;
+use rules::Taken;
 use score::cell_at;
 
 // What goes on before a half-cycle: whether the one before is known, the sag, whether an interruption or a swell is.
@@ -75,12 +75,6 @@ pub struct Surveyed {
     pub survey: Survey,
     pub step: Half,
     pub good: bool,
-}
-
-// The table of a recording, or refusal 6.
-pub enum Tabled {
-    Whole(Table),
-    Turned(Refusal),
 }
 
 // One more where it holds.
@@ -306,11 +300,40 @@ fn survey_group(
     Surveyed { survey, step, good }
 }
 
+// A table of the settings with every count 0.
+pub fn empty_table(s: Settings) -> Table
+    ensures { λ r. ⌜ r ≡ empty s ⌝ }
+{
+    Table {
+        settings: s,
+        total: 0,
+        healthy: 0,
+        disturbed: 0,
+        unknown: 0,
+        cells: [0; 40],
+        unplaced: 0,
+        sags: 0,
+        interruptions: 0,
+        swells: 0,
+        shortfall: 0,
+    }
+}
+
+// A refusal, beside an empty table.
+fn turned_away(s: Settings, refusal: Refusal) -> Site
+    ensures { λ r. ⌜ r ≡ turnedAway s refusal ⌝ }
+{
+    Site {
+        answer: Taken::Refused(refusal),
+        table: empty_table(s),
+    }
+}
+
 // The table of one recording of good length, or refusal 6, which is told as soon as a bad sample is met. Half-cycle H, which does not
 // exist, ends a sag that is still going on.
-pub fn table_of(s: Settings, samples: &[i32]) -> Tabled
+pub fn table_of(s: Settings, samples: &[i32]) -> Site
     requires { ⌜ (settingsGood s ≡ true) × (shapeCheck s (now samples) ≡ Accepted) ⌝ }
-    ensures { λ r. ⌜ r ≡ byCheck (recordingCheck s (now (samples .entry))) (Whole (grown (empty s) (now (samples .entry)))) (λ q. Turned q) ⌝ }
+    ensures { λ r. ⌜ r ≡ tabled s (now (samples .entry)) ⌝ }
 {
     let halves = count_halves(s, samples);
     let m = thresholds_of(s);
@@ -318,7 +341,7 @@ pub fn table_of(s: Settings, samples: &[i32]) -> Tabled
     let mut p = start_survey();
     let mut step = step_at(s, samples, 0);
     if !step_in_range(s, samples, 0, step) {
-        return Tabled::Turned(bad_sample(s, samples, 0));
+        return turned_away(s, bad_sample(s, samples, 0));
     }
     let mut g: u64 = 0;
     while 8 * g < halves {
@@ -334,7 +357,7 @@ pub fn table_of(s: Settings, samples: &[i32]) -> Tabled
             &mut cells,
         );
         if !group.good {
-            return Tabled::Turned(bad_sample(s, samples, from));
+            return turned_away(s, bad_sample(s, samples, from));
         }
         p = group.survey;
         step = group.step;
@@ -345,17 +368,20 @@ pub fn table_of(s: Settings, samples: &[i32]) -> Tabled
     let landed = land(s, p.landed, open.inside, open, halves, false, &mut cells);
     let classes = p.classes;
     let starts = p.starts;
-    Tabled::Whole(Table {
-        settings: s,
-        total: halves,
-        healthy: classes.healthy,
-        disturbed: classes.disturbed,
-        unknown: classes.unknown,
-        cells,
-        unplaced: landed.unplaced,
-        sags: starts.sags,
-        interruptions: starts.interruptions,
-        swells: starts.swells,
-        shortfall: landed.shortfall,
-    })
+    Site {
+        answer: Taken::Accepted,
+        table: Table {
+            settings: s,
+            total: halves,
+            healthy: classes.healthy,
+            disturbed: classes.disturbed,
+            unknown: classes.unknown,
+            cells,
+            unplaced: landed.unplaced,
+            sags: starts.sags,
+            interruptions: starts.interruptions,
+            swells: starts.swells,
+            shortfall: landed.shortfall,
+        },
+    }
 }

@@ -1,65 +1,75 @@
--- The state before half-cycle k is what the rules say, and each callee takes its part of it one half-cycle on. Assumes nothing.
+-- Each callee takes its part of the state one half-cycle on, and together they are the definition. Assumes nothing.
+use Prim.Native.Nat.{ℕ}
 use mathlib.Core.Path.{_≡_}
-use denote.Ref.{now}
-use Rattle.rules.specs.Halves.{halfAt}
-use Rattle.rules.proofs.Ranges.{good}
-use Rattle.rules.proofs.Samples.{accepted-recording}
-use Rattle.kinds.specs.Machine.{levelOf}
-use Rattle.kinds.proofs.Machine.{level-is}
-use Rattle.kinds.proofs.Limits.{marked, few-half}
-use Rattle.survey.proofs.Passes.{ask-follow, ask-classify, ask-starts, ask-land, turn-made, turn-cells}
+use mathlib.Core.Bool.{not, _&&_}
+use mathlib.Core.List.{List}
+use Rattle.rules.specs.declared.Settings.{Settings}
+use Rattle.rules.specs.declared.Half.{Half}
+use Rattle.kinds.specs.declared.Thresholds.{Thresholds}
+use Rattle.kinds.specs.declared.Level.{Level}
+use Rattle.kinds.specs.Machine.{levelFrom, Light}
+use Rattle.survey.specs.declared.Track.{Track}
+use Rattle.survey.specs.declared.Classes.{Classes}
+use Rattle.survey.specs.declared.Starts.{Starts}
+use Rattle.survey.specs.declared.Landed.{Landed}
+use Rattle.survey.specs.declared.Survey.{Survey}
+use Rattle.survey.specs.Pass.{trackedBy, goingOn, classedBy, startedBy, landedBy, cellsBy, landsBy, surveyedBy, cellsTurned, Landable, Turnable}
 use borrow.Author.Needs.{needs}
 use Rattle.survey.proofs.survey_turn.Statement.{statement}
 use Rattle.survey.proofs.survey_turn.Tie as tie
 
--- where the turn starts, seen from the place that knows the level, and that from later ones
-abbrev start : tie.After-level-at → tie.Start
-start c = c .before .before .before
+module _ (m : Thresholds) (v : Half) (p : Survey) (k : ℕ) (l : Level) (l-is : l ≡ levelFrom (m .full) (m .sag .from) v) where
+  ask-follow : (s : Settings) (cs : List ℕ) → Turnable s m v p k cs → Light (p .track .sag .short) × Light (l .short)
+  ask-follow s cs t = rw l-is (t .follow)
 
-abbrev level : tie.After-follow → tie.After-level-at
-level c = c .before .before
+  module _ (is : Track) (followed : is ≡ trackedBy m k (p .track) l) where
+    ask-land : (s : Settings) (cs : List ℕ) → Turnable s m v p k cs → Landable s (p .landed) (p .track .sag .inside && not (is .sag .inside)) (p .track .sag) k cs
+    ask-land s cs t = rw (followed, l-is) (t .landable)
 
--- the level is that of half-cycle k
-is-level : (c : tie.After-level-at) → let a = start c .args in c .level-at .result ≡ levelOf (a .s) (halfAt (a .s) (now (a .samples)) (a .k))
-is-level c = level-is _ _ _ _ _ (start c .pre .thresholds) (c .before .half-at .ensures) (c .level-at .ensures)
+    turned : (c : Classes) (b : Starts) (d : Landed) → c ≡ classedBy (p .classes) (l .known) (goingOn is) → b ≡ startedBy (p .starts) (p .track) is
+        → d ≡ landedBy (p .landed) (p .track .sag .inside && not (is .sag .inside)) (p .track .sag) (l .known)
+        → _≡_ {A = Survey} (record { track = is; classes = c; starts = b; landed = d }) (surveyedBy m v p k)
+    unfolding surveyedBy
+    turned c b d e f g = rw (e, f, g, followed, l-is)
 
-half-at-requires : tie.Need-half-at-requires
-half-at-requires c κs = search needs
+    turned-cells : (s : Settings) (cs cs′ : List ℕ) → cs′ ≡ cellsBy s (p .track .sag .inside && not (is .sag .inside)) (p .track .sag) k (l .known) cs
+        → cs′ ≡ cellsTurned s m v p k cs
+    unfolding cellsTurned
+    turned-cells s cs cs′ e = rw (e, followed, l-is)
+
+-- where the turn starts, seen from the place that knows the track after it
+abbrev start : tie.After-follow → tie.Start
+start c = c .before .before .before .before
 
 level-at-requires : tie.Need-level-at-requires
-level-at-requires c κs =
-    let v = c .before .before .pre in
-    let g = good _ (v .good-settings) in
-    (rw (v .thresholds) (marked _ g), rw (c .half-at .ensures) (few-half _ _ g (accepted-recording _ _ (v .accepted)) _))
+level-at-requires c κs = search needs
 
 follow-requires : tie.Need-follow-requires
-follow-requires c κs = let l = c .before in ask-follow _ _ _ _ _ _ _ (start l .pre) _ (is-level l)
+follow-requires c κs = ask-follow _ _ _ _ _ (c .before .level-at .ensures) _ _ (c .before .before .before .pre)
 
 classify-requires : tie.Need-classify-requires
-classify-requires c κs = let l = level (c .before .before .before .before .before) in ask-classify _ _ _ _ _ _ _ (start l .pre) _ (is-level l)
+classify-requires c κs = search needs
 
 count-starts-requires : tie.Need-count-starts-requires
-count-starts-requires c κs = let l = level (c .before .before .before .before .before .before) in ask-starts _ _ _ _ _ _ _ (start l .pre) _ (is-level l)
+count-starts-requires c κs = search needs
 
 land-requires : tie.Need-land-requires
 land-requires c κs =
-    let followed = c .before .before .before .before .before .before .before .before .before .before in
-    let l = level followed in
-    ask-land _ _ _ _ _ _ _ (start l .pre) _ (is-level l) _ (followed .follow .ensures)
+    let f = c .before .before .before .before .before .before .before .before .before .before in
+    ask-land _ _ _ _ _ (f .before .before .level-at .ensures) _ (f .follow .ensures) _ _ (start f .pre)
 
 returns : tie.Need-returns
 returns c =
-    let followed = c .before .before .before .before .before .before .before .before .before .before .before in
-    let l = level followed in (
-      turn-made _ _ _ _ _ _ _ (start l .pre) _ (is-level l) _ (followed .follow .ensures) _ _ _ (c .before .before .before .before .before .classify .ensures) (c .before .before .before .before .count-starts .ensures) (c .land .ensures .0),
-      turn-cells _ _ _ _ _ _ _ (start l .pre) _ (is-level l) _ (followed .follow .ensures) _ (c .land .ensures .1),
+    let f = c .before .before .before .before .before .before .before .before .before .before .before in
+    let l = f .before .before .level-at .ensures in (
+      turned _ _ _ _ _ l _ (f .follow .ensures) _ _ _ (c .before .before .before .before .before .classify .ensures) (c .before .before .before .before .count-starts .ensures) (c .land .ensures .0),
+      turned-cells _ _ _ _ _ l _ (f .follow .ensures) _ _ _ (c .land .ensures .1),
     )
 
 pub survey-turn-spec : {M : Type 1} → statement M
 survey-turn-spec =
     tie.close
     (tie.spec
-    half-at-requires
     level-at-requires
     follow-requires
     classify-requires

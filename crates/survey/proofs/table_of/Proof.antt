@@ -1,73 +1,111 @@
--- `survey::table_of` meets its contract. Before half-cycle k the survey and the cells are what the rules say of the half-cycles below it. The measure is what is left of them.
--- Assumes nothing.
-use Prim.Native.Nat.{_-_, _≤_}
-use mathlib.Core.Path.{_≡_, _∙_}
-use native.Mathlib.Omega.{arith}
-use borrow.Author.Needs.{needs}
-use denote.Ref.{now}
-use Rattle.rules.specs.Halves.{halfAt, halvesOf}
-use Rattle.survey.specs.Pass.{surveyAt, cellsAt}
-use Rattle.survey.proofs.Passes.{at-start, cells-start, ask-last, table-made}
 use Rattle.survey.proofs.table_of.Statement.{statement}
 use Rattle.survey.proofs.table_of.Tie as tie
+use Rattle.survey.proofs.table_of.Reads as reads
+use Rattle.survey.proofs.table_of.Lts as lts
+use Rattle.checks.proofs.count_halves.Reads as count-halves-reads
+use Rattle.halves.proofs.bad_sample.Reads as bad-sample-reads
+use Rattle.halves.proofs.step_at.Reads as step-at-reads
+use Rattle.halves.proofs.step_in_range.Reads as step-in-range-reads
+use Rattle.kinds.proofs.thresholds_of.Reads as thresholds-of-reads
+use Rattle.numbers.proofs.min.Reads as min-reads
+use Rattle.survey.proofs.land.Reads as land-reads
+use Rattle.survey.proofs.start_survey.Reads as start-survey-reads
+use Rattle.survey.proofs.survey_group.Reads as survey-group-reads
+use Rattle.survey.proofs.turned_away.Reads as turned-away-reads
 
 abbrev Inv-loop : tie.InvT-loop
-Inv-loop s samples halves m cells₀ p₀ k₀ cells p k =
-    (k ≤ halves) × (p ≡ surveyAt s (halfAt s samples) (halvesOf s samples) k) × (cells ≡ cellsAt s (halfAt s samples) (halvesOf s samples) k)
+Inv-loop s samples halves m cells₀ p₀ step₀ g₀ cells p step g = ?
 
 abbrev μ-loop : tie.MeasureT-loop
-μ-loop s samples halves m cells₀ p₀ k₀ cells p k = halves - k
+μ-loop s samples halves m cells₀ p₀ step₀ g₀ cells p step g = ?
 
-ended : (c : tie.After-loop Inv-loop μ-loop) → c .before .loop .k ≡ halvesOf (c .before .before .before .before .before .args .s) (now (c .before .before .before .before .before .args .samples))
-ended c = omega (arith, c .before .before .before .before .count-halves .ensures)
-
+-- src/lib.rt:338:9
 count-halves-requires : tie.Need-count-halves-requires Inv-loop μ-loop
-count-halves-requires c κs = search needs
+count-halves-requires c κs = ?
 
+-- src/lib.rt:339:9
 thresholds-of-requires : tie.Need-thresholds-of-requires Inv-loop μ-loop
-thresholds-of-requires c κs = search needs
+thresholds-of-requires c κs = ?
 
+-- src/lib.rt:341:9
 start-survey-requires : tie.Need-start-survey-requires Inv-loop μ-loop
-start-survey-requires c κs = search needs
+start-survey-requires c κs = ?
 
-loop-holds : tie.Need-loop-holds Inv-loop μ-loop
-loop-holds c =
-    let v = c .before .before .before .pre in
-    (omega arith, c .start-survey .ensures ∙ at-start _ _ (v .0) (v .1), cells-start _ _ (v .0) (v .1))
+-- src/lib.rt:342:9
+step-at-requires : tie.Need-step-at-requires Inv-loop μ-loop
+step-at-requires c κs = ?
 
-survey-turn-requires : tie.Need-survey-turn-requires Inv-loop μ-loop
-survey-turn-requires c κs =
-    let l = c .before .before .loop in
-    record {
-      good-settings = c .before .before .before .before .before .before .pre .0;
-      accepted = c .before .before .before .before .before .before .pre .1;
-      count-is = c .before .before .before .before .before .count-halves .ensures;
-      thresholds = c .before .before .before .before .thresholds-of .ensures;
-      inside = c .before .loop-test .taken;
-      state = l .inv .1;
-      cells-are = l .inv .2;
-    }
+-- src/lib.rt:343:9
+step-in-range-requires : tie.Need-step-in-range-requires Inv-loop μ-loop
+step-in-range-requires c κs = ?
 
-add-k : tie.Need-add-k Inv-loop μ-loop
-add-k c = search needs
+-- src/lib.rt:344:31
+bad-sample-requires : tie.Need-bad-sample-requires Inv-loop μ-loop
+bad-sample-requires c κs = ?
 
-loop-less : tie.Need-loop-less Inv-loop μ-loop
-loop-less c = search needs
+-- src/lib.rt:344:9
+turned-away-requires : tie.Need-turned-away-requires Inv-loop μ-loop
+turned-away-requires c κs = ?
 
-loop-again : tie.Need-loop-again Inv-loop μ-loop
-loop-again c = (omega arith, c .survey-turn .ensures .0, c .survey-turn .ensures .1)
-
-land-requires : tie.Need-land-requires Inv-loop μ-loop
-land-requires c κs =
-    let v = c .before .before .before .before .before .before .before .before .pre in
-    let l = c .before .before .before .before .loop in
-    ask-last _ _ (v .0) (v .1) _ _ _ _ (c .before .before .before .before .before .before .before .count-halves .ensures) (ended (c .before .before .before)) (l .inv .1) (l .inv .2)
-
+-- src/lib.rt:344:9
 returns : tie.Need-returns Inv-loop μ-loop
-returns c =
-    let v = c .before .before .before .before .before .before .before .before .before .before .before .pre in
-    let l = c .before .before .before .before .before .before .before .loop in
-    table-made _ _ (v .0) (v .1) _ _ _ _ (c .before .before .before .before .before .before .before .before .before .before .count-halves .ensures) (ended (c .before .before .before .before .before .before)) (l .inv .1) (l .inv .2) _ _ (c .before .before .land .ensures .0) (c .before .before .land .ensures .1)
+returns c = ?
+
+-- src/lib.rt:347:5
+loop-holds : tie.Need-loop-holds Inv-loop μ-loop
+loop-holds c = ?
+
+-- src/lib.rt:347:11
+mul-loop : tie.Need-mul-loop Inv-loop μ-loop
+mul-loop c = ?
+
+-- src/lib.rt:348:20
+mul-from : tie.Need-mul-from Inv-loop μ-loop
+mul-from c = ?
+
+-- src/lib.rt:356:17
+add-min : tie.Need-add-min Inv-loop μ-loop
+add-min c = ?
+
+-- src/lib.rt:356:13
+min-requires : tie.Need-min-requires Inv-loop μ-loop
+min-requires c κs = ?
+
+-- src/lib.rt:349:13
+survey-group-requires : tie.Need-survey-group-requires Inv-loop μ-loop
+survey-group-requires c κs = ?
+
+-- src/lib.rt:360:35
+bad-sample-requires-2 : tie.Need-bad-sample-requires-2 Inv-loop μ-loop
+bad-sample-requires-2 c κs = ?
+
+-- src/lib.rt:360:13
+turned-away-requires-2 : tie.Need-turned-away-requires-2 Inv-loop μ-loop
+turned-away-requires-2 c κs = ?
+
+-- src/lib.rt:360:13
+returns-2 : tie.Need-returns-2 Inv-loop μ-loop
+returns-2 c = ?
+
+-- src/lib.rt:364:9
+add-g : tie.Need-add-g Inv-loop μ-loop
+add-g c = ?
+
+-- src/lib.rt:347:5
+loop-less : tie.Need-loop-less Inv-loop μ-loop
+loop-less c = ?
+
+-- src/lib.rt:347:5
+loop-again : tie.Need-loop-again Inv-loop μ-loop
+loop-again c = ?
+
+-- src/lib.rt:368:9
+land-requires : tie.Need-land-requires Inv-loop μ-loop
+land-requires c κs = ?
+
+-- src/lib.rt:334:1
+returns-3 : tie.Need-returns-3 Inv-loop μ-loop
+returns-3 c = ?
 
 pub table-of-spec : {M : Type 1} → statement M
 table-of-spec =
@@ -78,10 +116,22 @@ table-of-spec =
     count-halves-requires
     thresholds-of-requires
     start-survey-requires
+    step-at-requires
+    step-in-range-requires
+    bad-sample-requires
+    turned-away-requires
+    returns
     loop-holds
-    survey-turn-requires
-    add-k
+    mul-loop
+    mul-from
+    add-min
+    min-requires
+    survey-group-requires
+    bad-sample-requires-2
+    turned-away-requires-2
+    returns-2
+    add-g
     loop-less
     loop-again
     land-requires
-    returns)
+    returns-3)
