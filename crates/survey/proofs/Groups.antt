@@ -4,7 +4,6 @@ use Prim.Native.Nat.{ℕ, suc, _+_, _-_, _*_, _≤_, _<_}
 use mathlib.Core.Path.{_≡_, sym, ap, _∙_}
 use mathlib.Core.Bool.{Bool, true, false, _&&_, cond}
 use mathlib.Core.List.{List}
-use mathlib.Core.Logic.{⊎-elim}
 use native.Mathlib.Numerals.{add-one}
 use native.Mathlib.Omega.{arith}
 use lib.IntN.{ℤ}
@@ -12,12 +11,11 @@ use Rattle.rules.specs.Bounded.{before, firstNot}
 use Rattle.rules.specs.Halves.{begin, halfAt, halvesOf}
 use Rattle.rules.specs.Events.{inEvent}
 use Rattle.rules.specs.Refusals.{recordingCheck}
-use Rattle.rules.specs.Demands.{Good, AcceptedRecording}
 use Rattle.rules.specs.declared.Settings.{Settings}
 use Rattle.rules.specs.declared.Half.{Half}
 use Rattle.rules.specs.declared.Kind.{Kind}
 use Rattle.rules.specs.declared.Taken.the-variants.{Accepted}
-use Rattle.rules.proofs.Booleans.{cases, both}
+use Rattle.rules.proofs.Booleans.{both}
 use Rattle.rules.proofs.Ranges.{good}
 use Rattle.checks.specs.Flags.{allInRange, RangedBelow, asRead}
 use Rattle.checks.proofs.Reading.{read-halves, read-taken, read-accepted}
@@ -27,7 +25,7 @@ use Rattle.kinds.specs.declared.Thresholds.{Thresholds}
 use Rattle.quiet.specs.Quiet.{isQuiet, Resting}
 use Rattle.quiet.proofs.Stretches.{half-here, stop-low, stop-high, calm-rests, calm-ranged}
 use Rattle.survey.specs.declared.Survey.{Survey}
-use Rattle.survey.specs.Pass.{goingOn, passedOver, surveyedBy, cellsTurned, Turnable, Surveying, trackAt, cellsAt, surveyAt}
+use Rattle.survey.specs.Pass.{goingOn, passedOver, surveyedBy, cellsTurned, Turnable, Surveying, cellsAt, surveyAt}
 use Rattle.survey.proofs.Passes.{classes-few, parts, turnable, turn-made, turn-cells}
 use Rattle.survey.proofs.Rests.{nothing-open, over-survey, over-all-cells}
 
@@ -107,8 +105,8 @@ module _ {s : Settings} {xs : List ℤ} {m : Thresholds} {p : Survey} {first : H
       pub ask-turn : Turnable s m half q k ds
       ask-turn = turnable s (asRead xs) (v .reading .good-settings) taken m half q k ds (v .reading .thresholds) half-is k-high state cells-are
 
-      pub after-turn : surveyedBy m half q k ≡ surveyAt s h n (k + 1)
-      after-turn = rw (add-one k) (turn-made s (asRead xs) (v .reading .good-settings) taken m half q k ds (v .reading .thresholds) half-is k-high state cells-are)
+      pub after-turn : (q′ : Survey) → q′ ≡ surveyedBy m half q k → q′ ≡ surveyAt s h n (k + 1)
+      after-turn q′ e = rw (add-one k) (e ∙ turn-made s (asRead xs) (v .reading .good-settings) taken m half q k ds (v .reading .thresholds) half-is k-high state cells-are)
 
-      pub cells-after-turn : cellsTurned s m half q k ds ≡ cellsAt s h n (k + 1)
-      cells-after-turn = rw (add-one k) (turn-cells s (asRead xs) (v .reading .good-settings) taken m half q k ds (v .reading .thresholds) half-is k-high state cells-are)
+      pub cells-after-turn : (ds′ : List ℕ) → ds′ ≡ cellsTurned s m half q k ds → ds′ ≡ cellsAt s h n (k + 1)
+      cells-after-turn ds′ e = rw (add-one k) (e ∙ turn-cells s (asRead xs) (v .reading .good-settings) taken m half q k ds (v .reading .thresholds) half-is k-high state cells-are)

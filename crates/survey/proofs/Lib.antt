@@ -4,3 +4,4 @@ pub mod Gains
 pub mod Passes
 pub mod Rests
 pub mod Groups
+pub mod Tables

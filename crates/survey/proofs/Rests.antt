@@ -2,10 +2,8 @@
 -- nothing.
 use Prim.Native.Nat.{ℕ, zero, suc, _+_, _-_, _≤_, _<_}
 use mathlib.Core.Path.{_≡_, refl, sym, ap, _∙_}
-use mathlib.Core.Bool.{Bool, true, false, not, _&&_, _||_, cond}
-use mathlib.Core.List.{List}
+use mathlib.Core.Bool.{Bool, true, false, not, _&&_, _||_}
 use native.Mathlib.Nat.{add-zero}
-use native.Mathlib.Numerals.{add-one}
 use native.Mathlib.Omega.{arith}
 use borrow.Author.Tests.{lt-ltb}
 use lib.Dec.{ltb, eqb}
@@ -24,8 +22,6 @@ use Rattle.kinds.proofs.Machine.{inside-is, opens-closed, opens-out}
 use Rattle.quiet.specs.Quiet.{Resting}
 use Rattle.survey.specs.declared.Track.{Track}
 use Rattle.survey.specs.declared.Classes.{Classes}
-use Rattle.survey.specs.declared.Starts.{Starts}
-use Rattle.survey.specs.declared.Landed.{Landed}
 use Rattle.survey.specs.declared.Survey.{Survey}
 use Rattle.survey.specs.Pass.{goingOn, passedOver, trackAt, classesAt, startsAt, landed, landedAt, seenBoth, shortfallFrom, cellsAt, surveyAt}
 use Rattle.survey.proofs.Gains.{cells-same}

@@ -126,8 +126,8 @@ loop-again c =
     let next = j .before .before .step-at .ensures in
     let here = j .before .step-in-range .ensures in (
       omega (arith, below t),
-      c .survey-turn .ensures .0 ∙ after-turn v (at t) (below t) _ _ _ _ _ (j .joined .ensures) (i .3) next (i .1) (i .2),
-      c .survey-turn .ensures .1 ∙ cells-after-turn v (at t) (below t) _ _ _ _ _ (j .joined .ensures) (i .3) next (i .1) (i .2),
+      after-turn v (at t) (below t) _ _ _ _ _ (j .joined .ensures) (i .3) next (i .1) (i .2) _ (c .survey-turn .ensures .0),
+      cells-after-turn v (at t) (below t) _ _ _ _ _ (j .joined .ensures) (i .3) next (i .1) (i .2) _ (c .survey-turn .ensures .1),
       next,
       ranged-more v (at t) (below t) _ _ here (i .4),
       bad-more v (at t) (below t) _ _ here (i .5),

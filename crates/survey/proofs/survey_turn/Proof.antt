@@ -13,7 +13,7 @@ use Rattle.survey.specs.declared.Classes.{Classes}
 use Rattle.survey.specs.declared.Starts.{Starts}
 use Rattle.survey.specs.declared.Landed.{Landed}
 use Rattle.survey.specs.declared.Survey.{Survey}
-use Rattle.survey.specs.Pass.{trackedBy, goingOn, classedBy, startedBy, landedBy, cellsBy, landsBy, surveyedBy, cellsTurned, Landable, Turnable}
+use Rattle.survey.specs.Pass.{trackedBy, goingOn, classedBy, startedBy, landedBy, cellsBy, surveyedBy, cellsTurned, Landable, Turnable}
 use borrow.Author.Needs.{needs}
 use Rattle.survey.proofs.survey_turn.Statement.{statement}
 use Rattle.survey.proofs.survey_turn.Tie as tie

@@ -1,0 +1,138 @@
+-- The whole recording, group by group: what the survey has reached before half-cycle k, and what its end and a bad sample make of it.
+-- Where the end is reached every sample is in range, so the recording as it is read is the recording. Assumes nothing.
+use Prim.Native.Nat.{ℕ, suc, _+_, _*_, _≤_, _<_, min}
+use mathlib.Core.Path.{_≡_, sym, _∙_}
+use mathlib.Core.Bool.{Bool, true, false}
+use mathlib.Core.List.{List}
+use native.Mathlib.Omega.{arith}
+use lib.IntN.{ℤ}
+use lib.ListN.{length, replicate}
+use Rattle.rules.specs.Recorder.{settingsGood, firstBad}
+use Rattle.rules.specs.Halves.{begin, halfAt, halvesOf}
+use Rattle.rules.specs.Site.{cells, empty, grown}
+use Rattle.rules.specs.declared.Settings.{Settings}
+use Rattle.rules.specs.declared.Half.{Half}
+use Rattle.rules.specs.declared.Refusal.{Refusal}
+use Rattle.rules.specs.declared.Refusal.the-variants.{Sample}
+use Rattle.rules.specs.declared.Site.{Site as Handed}
+use Rattle.rules.specs.declared.Table.{Table}
+use Rattle.rules.specs.declared.Taken.the-variants.{Accepted}
+use Rattle.rules.proofs.Ranges.{good}
+use Rattle.checks.specs.Flags.{shapeCheck, allInRange, RangedBelow, asRead}
+use Rattle.checks.proofs.Reading.{by-range, range-good, range-bad, ranged-all, read-itself, read-halves, read-taken, read-accepted}
+use Rattle.halves.specs.Steps.{stepAt, stepRun}
+use Rattle.halves.proofs.Steps.{step-fits, steps-all, ranged-next, step-bad}
+use Rattle.kinds.specs.Machine.{thresholdsOf}
+use Rattle.kinds.specs.declared.Thresholds.{Thresholds}
+use Rattle.survey.specs.declared.Landed.{Landed}
+use Rattle.survey.specs.declared.Survey.{Survey}
+use Rattle.survey.specs.declared.Surveyed.{Surveyed}
+use Rattle.survey.specs.Pass.{landedBy, cellsBy, Landable, Surveying, SurveyedTo, cellsAt, surveyAt, startSurvey, turnedAway, tabled}
+use Rattle.survey.proofs.Passes.{at-start, cells-start, ask-last, table-made}
+
+-- before half-cycle k: the survey, the cells and the step are those of k, and all samples up to that step are in range
+pub record Reached (s : Settings) (xs : List ℤ) (k : ℕ) (p : Survey) (step : Half) (cs : List ℕ) : Type 0 where
+  pub state : p ≡ surveyAt s (halfAt s (asRead xs)) (halvesOf s (asRead xs)) k
+  pub cells-are : cs ≡ cellsAt s (halfAt s (asRead xs)) (halvesOf s (asRead xs)) k
+  pub step-is : step ≡ stepAt s xs k
+  pub in-range : RangedBelow xs (3 * begin s (suc k))
+
+pub reached-there : {s : Settings} {xs : List ℤ} {p : Survey} {step : Half} {cs : List ℕ} (j k : ℕ) → j ≡ k → Reached s xs j p step cs → Reached s xs k p step cs
+reached-there j k e r = rw (sym e) r
+
+-- what a group reached, where it met no bad sample
+pub group-reached : (s : Settings) (xs : List ℤ) (to : ℕ) (r : Surveyed) (cs : List ℕ) → SurveyedTo s xs to r cs → r .good ≡ true → Reached s xs to (r .survey) (r .step) cs
+group-reached s xs to r cs t e = record { state = t .state; cells-are = t .cells-are; step-is = t .step; in-range = t .in-range e }
+
+module _ (s : Settings) (xs : List ℤ) (good-settings : settingsGood s ≡ true) (shaped : shapeCheck s xs ≡ Accepted) where
+  pub halves-high : halvesOf s xs ≤ 100000
+  halves-high = omega (arith, read-accepted s xs shaped .few, read-halves s xs)
+
+  -- ---- the start
+
+  pub start-reached : (p : Survey) (step : Half) (b : Bool) → p ≡ startSurvey → step ≡ stepAt s xs 0 → b ≡ allInRange (stepRun s xs 0) → b ≡ true
+      → Reached s xs 0 p step (replicate cells 0)
+  start-reached p step b e f i t =
+      record {
+        state = e ∙ at-start s (asRead xs) good-settings (read-taken s xs shaped);
+        cells-are = cells-start s (asRead xs) good-settings (read-taken s xs shaped);
+        step-is = f;
+        in-range = ranged-next s xs (good s good-settings) shaped 0 (omega arith) (λ j l. absurd (omega arith)) (sym i ∙ t);
+      }
+
+  -- ---- a bad sample
+
+  -- one in step 0
+  pub first-bad-step : (b : Bool) → b ≡ allInRange (stepRun s xs 0) → b ≡ false → allInRange xs ≡ false
+  first-bad-step b e t = step-bad s xs (good s good-settings) shaped 0 (omega arith) (sym e ∙ t)
+
+  pub ask-first : (3 * begin s 0 ≤ length xs) × RangedBelow xs (3 * begin s 0)
+  ask-first = (omega arith, λ j l. absurd (omega arith))
+
+  -- where it is looked for
+  pub ask-bad : {p : Survey} {step : Half} {cs : List ℕ} (k : ℕ) → k ≤ halvesOf s xs → Reached s xs k p step cs → (3 * begin s k ≤ length xs) × RangedBelow xs (3 * begin s k)
+  ask-bad k l r = (omega (arith, step-fits s xs (good s good-settings) shaped k l), λ j m. r .in-range j (omega arith))
+
+  pub turned : allInRange xs ≡ false → (q : Refusal) (r : Handed) → q ≡ Sample (firstBad xs) → r ≡ turnedAway s q → r ≡ tabled s xs
+  unfolding tabled
+  turned e q r f i = i ∙ rw (f, by-range s xs shaped, range-bad xs e)
+
+  -- ---- a group
+
+  module _ (m : Thresholds) (m-is : m ≡ thresholdsOf s) (halves : ℕ) (count-is : halves ≡ halvesOf s xs) where
+    pub ask-group : {p : Survey} {step : Half} {cs : List ℕ} (k to : ℕ) → k < halves → to ≡ min (k + 8) halves → Reached s xs k p step cs → Surveying s xs m p step k to cs
+    ask-group k to l e r =
+        record {
+          reading =
+              record {
+                good-settings = good-settings;
+                shaped = shaped;
+                thresholds = m-is;
+                ordered = omega arith;
+                high = omega arith;
+                step = r .step-is;
+              };
+          state = r .state;
+          cells-are = r .cells-are;
+          in-range = r .in-range;
+        }
+
+  -- ---- the end
+
+  module _ (halves k : ℕ) (p : Survey) (step : Half) (cs : List ℕ) (count-is : halves ≡ halvesOf s xs) (done : k ≡ halves) (r : Reached s xs k p step cs) where
+    counted : halves ≡ halvesOf s (asRead xs)
+    counted = count-is ∙ sym (read-halves s xs)
+
+    whole : allInRange xs ≡ true
+    whole =
+        let e : k ≡ halvesOf s xs = done ∙ count-is in
+        ranged-all xs (3 * begin s (suc (halvesOf s xs))) (steps-all s xs (good s good-settings) shaped) (rw e at (r .in-range))
+
+    pub ask-end : Landable s (p .landed) (p .track .sag .inside) (p .track .sag) halves cs
+    ask-end = ask-last s (asRead xs) good-settings (read-taken s xs shaped) halves k p cs counted (done ∙ counted) (r .state) (r .cells-are)
+
+    taken : (t : Table) → t ≡ grown (empty s) (asRead xs) → _≡_ {A = Handed} (record { answer = Accepted; table = t }) (tabled s xs)
+    unfolding tabled
+    taken t e = rw (e, read-itself xs whole, by-range s xs shaped, range-good xs whole)
+
+    pub end-made : (d : Landed) (cs′ : List ℕ) → d ≡ landedBy (p .landed) (p .track .sag .inside) (p .track .sag) false
+        → cs′ ≡ cellsBy s (p .track .sag .inside) (p .track .sag) halves false cs
+        → _≡_ {A = Handed} (record {
+          answer = Accepted;
+          table =
+              record {
+                settings = s;
+                total = halves;
+                healthy = p .classes .healthy;
+                disturbed = p .classes .disturbed;
+                unknown = p .classes .unknown;
+                cells = cs′;
+                unplaced = d .unplaced;
+                sags = p .starts .sags;
+                interruptions = p .starts .interruptions;
+                swells = p .starts .swells;
+                shortfall = d .shortfall;
+              };
+        }) (tabled s xs)
+    end-made d cs′ e f =
+        taken _ (table-made s (asRead xs) good-settings (read-taken s xs shaped) halves k p cs counted (done ∙ counted) (r .state) (r .cells-are) d cs′ e f)
