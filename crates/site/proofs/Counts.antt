@@ -28,7 +28,10 @@ use Rattle.rules.specs.declared.Refusal.{Refusal}
 use Rattle.rules.specs.declared.Refusal.the-variants.{Full, Unsound}
 use Rattle.rules.specs.declared.Taken.the-variants.{Accepted, Refused}
 use Rattle.rules.specs.declared.Site.{Site as Handed}
-use Rattle.site.specs.Merging.{Mergeable, merged}
+use Rattle.checks.specs.Flags.{shapeCheck}
+use Rattle.checks.proofs.Reading.{check-parts}
+use Rattle.survey.specs.Pass.{tabled}
+use Rattle.site.specs.Merging.{Mergeable, merged, Adding, addedTo}
 
 -- ---- three counts and a total
 
@@ -145,6 +148,9 @@ module _ (t : Table) (xs : List ℤ) where
     unfolding added addCheck soundCheck
     add-turned r e = rw (sound, e)
 
+    pub add-unshaped : (r : Refusal) → shapeCheck (t .settings) xs ≡ Refused r → _≡_ {A = Handed} (record { answer = Refused r; table = t }) (added t xs)
+    add-unshaped r e = add-turned r (check-parts (t .settings) xs ∙ rw e)
+
     module _ (ok : recordingCheck (t .settings) xs ≡ Accepted) (n : ℕ) (all : n ≡ halvesOf (t .settings) xs) where
       total-high : t .total ≤ 4000000
       total-high = sound-parts t sound .total-high
@@ -162,6 +168,15 @@ module _ (t : Table) (xs : List ℤ) where
       add-taken l = rw (check-taken l)
 
 -- ---- two tables added
+
+module _ (t u : Table) where
+  pub to-full : 4000000 - t .total < u .total → _≡_ {A = Handed} (record { answer = Refused (Full (4000000 - t .total)); table = t }) (addedTo t u)
+  unfolding addedTo
+  to-full l = rw (lt-ltb (4000000 - t .total) (u .total) l)
+
+  pub to-merged : (v : Table) → u .total ≤ 4000000 - t .total → v ≡ merged t u → _≡_ {A = Handed} (record { answer = Accepted; table = v }) (addedTo t u)
+  unfolding addedTo
+  to-merged v l e = rw (e, le-ltb (4000000 - t .total) (u .total) l)
 
 total-at : (cs : List ℕ) (i : ℕ) → getD cs i 0 ≤ total cs
 total-at [] i = omega arith
@@ -240,3 +255,44 @@ module _ (t : Table) (xs : List ℤ) (forty : length (t .cells) ≡ 40) where
         swells-few = omega (arith, s .swells-high, s .total-high);
         shortfall-low = omega (arith, s .shortfall-high, high);
       }
+
+  -- ---- the table of an accepted recording, added
+
+  module _ (sound : isUnsound t ≡ false) (ok : recordingCheck (t .settings) xs ≡ Accepted) where
+    u-total : u .total ≡ halvesOf (t .settings) xs
+    unfolding grown
+    u-total = zero-add (halvesOf (t .settings) xs)
+
+    pub adding : Adding t u
+    adding =
+        record {
+          total-high = sound-parts t sound .total-high;
+          mergeable = λ l. mergeable (check-taken t xs sound ok (u .total) u-total (omega arith));
+        }
+
+    pub added-is : addedTo t u ≡ added t xs
+    added-is =
+        ⊎-elim
+        (λ l. sym (to-full t u l) ∙ add-full t xs sound ok (u .total) u-total l)
+        (λ l. sym (to-merged t u (grown t xs) l (sym merged-grown)) ∙ add-taken t xs sound ok (u .total) u-total l)
+        (lower (4000000 - t .total) (u .total))
+
+  -- ---- what the pass over the recording answers, and its table
+
+  module _ (sound : isUnsound t ≡ false) (r : Handed) (is : r ≡ tabled (t .settings) xs) where
+    answer-is : r .answer ≡ recordingCheck (t .settings) xs
+    unfolding tabled
+    answer-is = rw is
+
+    table-is : recordingCheck (t .settings) xs ≡ Accepted → r .table ≡ u
+    unfolding tabled
+    table-is e = rw (is, e)
+
+    pub pass-adding : r .answer ≡ Accepted → Adding t (r .table)
+    pass-adding e = let ok = sym answer-is ∙ e in rw (table-is ok) (adding sound ok)
+
+    pub pass-added : r .answer ≡ Accepted → (v : Handed) → v ≡ addedTo t (r .table) → v ≡ added t xs
+    pass-added e v f = let ok = sym answer-is ∙ e in f ∙ rw (table-is ok) (added-is sound ok)
+
+    pub pass-turned : (q : Refusal) → r .answer ≡ Refused q → _≡_ {A = Handed} (record { answer = Refused q; table = t }) (added t xs)
+    pass-turned q e = add-turned t xs sound q (sym answer-is ∙ e)

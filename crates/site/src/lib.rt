@@ -4,7 +4,7 @@ ghost use mathlib.Core.Bool.{true, false};
 ghost use Prim.Native.Nat.{ℕ, _+_, _*_, _≤_, min as lesser};
 ghost use lib.Dec.{eqb};
 ghost use lib.ListN.{getD};
-ghost use Rattle.rules.specs.Site.{total, cellsFrom, empty, zeroSettings, isUnsound};
+ghost use Rattle.rules.specs.Site.{total, cellsFrom, zeroSettings, isUnsound};
 ghost use Rattle.rules.specs.Refusals.{freshened, added};
 ghost use Rattle.rules.specs.declared.Taken.the-variants.{Accepted};
 ghost use Rattle.checks.specs.Flags.{shapeCheck};
@@ -20,7 +20,7 @@ use rules::Site;
 use rules::Table;
 use rules::Taken;
 use score::full_of;
-use survey::Tabled;
+use survey::empty_table;
 use survey::table_of;
 
 // Whether three counts make up the total. A count above the total is told first: then no sum can wrap and look right.
@@ -117,25 +117,6 @@ fn merge(t: Table, u: Table) -> Table
     }
 }
 
-// A table of the settings with every count 0.
-fn empty_table(s: Settings) -> Table
-    ensures { λ r. ⌜ r ≡ empty s ⌝ }
-{
-    Table {
-        settings: s,
-        total: 0,
-        healthy: 0,
-        disturbed: 0,
-        unknown: 0,
-        cells: [0; 40],
-        unplaced: 0,
-        sags: 0,
-        interruptions: 0,
-        swells: 0,
-        shortfall: 0,
-    }
-}
-
 fn no_settings() -> Settings
     ensures { λ r. ⌜ r ≡ zeroSettings ⌝ }
 {
@@ -191,9 +172,10 @@ fn add_shaped(t: Table, samples: &[i32]) -> Site
     ensures { λ r. ⌜ r ≡ added t (now (samples .entry)) ⌝ }
 {
     let tabled = table_of(t.settings, samples);
-    match tabled {
-        Tabled::Whole(u) => add_table(t, u),
-        Tabled::Turned(r) => Site {
+    let answer = tabled.answer;
+    match answer {
+        Taken::Accepted => add_table(t, tabled.table),
+        Taken::Refused(r) => Site {
             answer: Taken::Refused(r),
             table: t,
         },
