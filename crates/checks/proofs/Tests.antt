@@ -1,23 +1,25 @@
 -- The tests of one signed sample, what the flags over a whole run say of its first bad one, and the two parts of the checks. Assumes
 -- nothing.
 use Prim.Native.Nat.{ℕ, zero, suc, _-_, _≤_}
-use mathlib.Core.Path.{_≡_, refl, sym, _∙_}
-use mathlib.Core.Bool.{Bool, true, false, not, _&&_}
+use mathlib.Core.Path.{_≡_, refl, sym, ap, _∙_}
+use mathlib.Core.Bool.{Bool, true, false, not, _||_}
 use mathlib.Core.List.{List}
+use mathlib.Core.Logic.{⊎-elim}
+use Rattle.rules.proofs.Booleans.{cases}
 use native.Mathlib.Numerals.{add-one}
 use native.Mathlib.Omega.{arith}
-use borrow.Author.Tests.{eq-eqb, ne-eqb, eqb-true, eqb-false}
+use borrow.Author.Tests.{eq-eqb, ne-eqb, eqb-true, eqb-false, ltb-true, ltb-false, lt-leb, le-leb}
 use lib.Dec.{leb, ltb, eqb, leb·suc-suc}
-use lib.IntN.{ℤ, pos, negsuc, natAbs}
+use lib.IntN.{ℤ, pos, negsuc}
 use lib.ListN.{length, getD}
-use lib.Signed.{leZ}
+use lib.Signed.{ltZ}
 use mir.Syntax.{w32}
 use mir.Val.{SFits, ofZ}
 use Rattle.rules.specs.Recorder.{missing, inRange, firstBad}
 use Rattle.rules.specs.Bounded.{firstNot}
 use Rattle.rules.proofs.Runs.{first-go}
 use Rattle.rules.proofs.Samples.{first-found}
-use Rattle.checks.specs.Flags.{allInRange, RangedBelow}
+use Rattle.checks.specs.Flags.{odd, tooLow, tooHigh, allInRange, RangedBelow}
 
 -- ---- the test against MISSING, whose bits are 2 ^ 31
 
@@ -36,15 +38,30 @@ missing-is x f = by (eqb (ofZ w32 x) 2147483648) refl
     by true e = sym (is-missing x f (eqb-true _ _ e))
     by false e = sym (not-missing x (eqb-false _ _ e))
 
--- ---- the test against both limits
+-- ---- the tests against the limits
 
-pub limits-are : (x : ℤ) → leZ (negsuc 99999) x && leZ x (pos 100000) ≡ leb (natAbs x) 100000
-limits-are (pos n) = refl
-limits-are (negsuc n) = and-true (leb n 99999) ∙ sym (leb·suc-suc n 99999)
+pub low-is : (x : ℤ) → ltZ x (negsuc 99999) ≡ tooLow x
+low-is (pos n) = refl
+low-is (negsuc n) = refl
+
+pub high-is : (x : ℤ) → ltZ (pos 100000) x ≡ tooHigh x
+high-is (pos n) = refl
+high-is (negsuc n) = refl
+
+at-most : (n m : ℕ) → not (ltb m n) ≡ leb n m
+at-most n m = ⊎-elim (λ e. ap not e ∙ sym (lt-leb n m (ltb-true m n e))) (λ e. ap not e ∙ sym (le-leb n m (ltb-false m n e))) (cases (ltb m n))
+
+pub odd-is : (x : ℤ) → tooLow x || tooHigh x ≡ odd x
+odd-is (pos n) = twice (ltb 100000 n) ∙ ap not (at-most n 100000)
   where
-    and-true : (b : Bool) → b && true ≡ b
-    and-true true = refl
-    and-true false = refl
+    twice : (b : Bool) → b ≡ not (not b)
+    twice true = refl
+    twice false = refl
+odd-is (negsuc n) = or-false (ltb 99999 n) ∙ ap not (at-most n 99999 ∙ sym (leb·suc-suc n 99999))
+  where
+    or-false : (b : Bool) → b || false ≡ not (not b)
+    or-false true = refl
+    or-false false = refl
 
 -- ---- a whole run: a bad sample is found exactly where the flags say that there is one
 

@@ -1,7 +1,7 @@
 -- The checks of a recording in their two parts, the flags of its samples, and a recording as a pass reads it.
 use Prim.Native.Nat.{ℕ, _/_, _%_, _<_}
 use mathlib.Core.Path.{_≡_}
-use mathlib.Core.Bool.{Bool, true, not, cond}
+use mathlib.Core.Bool.{Bool, true, false, not, cond}
 use mathlib.Core.List.{List, [], _∷_}
 use lib.Dec.{leb, ltb, eqb}
 use lib.IntN.{ℤ, pos, negsuc, natAbs}
@@ -32,6 +32,15 @@ rangeCheck xs = cond (ltb (firstBad xs) (length xs)) (Refused (Sample (firstBad 
 -- a sample outside the limits is missing, or bad
 abbrev pub odd : ℤ → Bool
 odd x = not (leb (natAbs x) 100000)
+
+-- it lies below -100,000, or above 100,000
+abbrev pub tooLow : ℤ → Bool
+tooLow (pos n) = false
+tooLow (negsuc n) = ltb 99999 n
+
+abbrev pub tooHigh : ℤ → Bool
+tooHigh (pos n) = ltb 100000 n
+tooHigh (negsuc n) = false
 
 -- every sample is in range, or missing
 unfoldable pub allInRange : List ℤ → Bool

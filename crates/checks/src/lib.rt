@@ -5,7 +5,7 @@ ghost use lib.ListN.{length};
 ghost use Rattle.rules.specs.Recorder.{badSetting, missing, inRange, firstBad};
 ghost use Rattle.rules.specs.Halves.{halvesOf};
 ghost use Rattle.rules.specs.Refusals.{settingsCheck};
-ghost use Rattle.checks.specs.Flags.{odd, allInRange, RangedBelow, shapeCheck};
+ghost use Rattle.checks.specs.Flags.{tooLow, tooHigh, allInRange, RangedBelow, shapeCheck};
 use numbers::quotient;
 use numbers::remainder;
 use rules::Refusal;
@@ -84,18 +84,25 @@ fn is_missing(x: i32) -> bool
     x == MISSING
 }
 
-// Whether a sample lies outside the limits: it is missing, or bad.
-pub fn is_odd(x: i32) -> bool
-    ensures { λ r. ⌜ r ≡ odd x ⌝ }
+// Whether a sample lies below the limits: it is missing, or bad.
+pub fn is_low(x: i32) -> bool
+    ensures { λ r. ⌜ r ≡ tooLow x ⌝ }
 {
-    !((-LIMIT <= x) & (x <= LIMIT))
+    x < -LIMIT
+}
+
+// Whether a sample lies above the limits: it is bad.
+pub fn is_high(x: i32) -> bool
+    ensures { λ r. ⌜ r ≡ tooHigh x ⌝ }
+{
+    LIMIT < x
 }
 
 // Whether a sample is in range, or missing.
 fn is_in_range(x: i32) -> bool
     ensures { λ r. ⌜ r ≡ inRange x ⌝ }
 {
-    is_missing(x) | !is_odd(x)
+    is_missing(x) | !(is_low(x) | is_high(x))
 }
 
 // Whether every sample is in range: one pass of flags, with no branch.

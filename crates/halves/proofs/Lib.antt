@@ -1,4 +1,5 @@
 -- What the proofs of the functions cite.
 pub mod Squares
 pub mod Parts
+pub mod Sweep
 pub mod Steps

@@ -25,9 +25,9 @@ use Rattle.rules.proofs.Bounded.{any-same, sum-same, all-true}
 use Rattle.rules.proofs.Choices.{lower}
 use Rattle.rules.proofs.Samples.{any-at, window-fits}
 use Rattle.checks.specs.Flags.{shapeCheck, odd, allInRange, RangedBelow, asRead, readAs}
-use Rattle.checks.proofs.Reading.{all-ranged, ranged-all, even-low, even-ranged, even-read, missing-read, read-length, read-at, read-halves, read-accepted}
+use Rattle.checks.proofs.Reading.{all-ranged, ranged-all, even-ranged, even-read, missing-read, read-length, read-at, read-halves, read-accepted}
 use Rattle.halves.specs.Steps.{stepRun, oddIn, squaresIn, sumsIn, stepIn, stepAt, joinedOf, Low, Addable}
-use Rattle.halves.proofs.Parts.{part-length, part-at, part-samples, sample-is, squares-in-low}
+use Rattle.halves.proofs.Parts.{part-length, part-at, part-samples, sample-is, squares-in-low, low-run}
 
 -- ---- sums and flags in two parts
 
@@ -108,10 +108,6 @@ module _ (s : Settings) (g : Good s) (ys : List ℤ) (k : ℕ) where
 
 -- ---- what the code's pass over a step finds is that
 
-pub low-run : (w : List ℤ) → oddIn w ≡ false → Low w
-unfolding oddIn
-low-run w m i l = even-low (getD w i (pos 0)) (any-at (λ i. odd (getD w i (pos 0))) (length w) m i l)
-
 -- a run with no odd sample is in range
 pub even-run : (w : List ℤ) → oddIn w ≡ false → allInRange w ≡ true
 unfolding oddIn allInRange
@@ -184,6 +180,9 @@ module _ (s : Settings) (xs : List ℤ) (good : Good s) (shaped : shapeCheck s x
 
     pub step-few : length w ≤ 768
     step-few = omega (arith, part-length xs (begin s j) (s .n / 2) fits, good .n-high)
+
+    pub step-threes : length w % 3 ≡ 0
+    step-threes = omega (arith, part-length xs (begin s j) (s .n / 2) fits)
 
     pub step-addable : Addable (stepAt s xs j)
     unfolding stepAt stepIn sumsIn

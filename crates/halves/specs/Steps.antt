@@ -5,6 +5,7 @@ use mathlib.Core.Bool.{Bool, cond}
 use mathlib.Core.List.{List}
 use lib.IntN.{ℤ, pos, natAbs}
 use lib.ListN.{length, getD, take, drop}
+use lib.Signed.{ltZ}
 use Rattle.rules.specs.Bounded.{any, sum}
 use Rattle.rules.specs.Recorder.{sampleAt}
 use Rattle.rules.specs.Halves.{samplesOf, square, begin}
@@ -29,6 +30,13 @@ stepRun s xs j = part xs (begin s j) (s .n / 2)
 -- some sample is odd: missing, or bad
 unfoldable pub oddIn : List ℤ → Bool
 oddIn w = any (λ i. odd (getD w i (pos 0))) (length w)
+
+-- the lesser and the greater of two samples
+abbrev pub lesserOf : ℤ → ℤ → ℤ
+lesserOf x y = cond (ltZ y x) y x
+
+abbrev pub greaterOf : ℤ → ℤ → ℤ
+greaterOf x y = cond (ltZ x y) y x
 
 -- the squares of channel c summed, and those of all three
 abbrev pub squaresIn : List ℤ → ℕ → ℕ → ℕ

@@ -2,21 +2,23 @@
 // steps k and k + 1, unknown where one of them lacks a sample, and else their sums added.
 ghost use mathlib.Core.Path.{_≡_};
 ghost use mathlib.Core.Bool.{true};
-ghost use Prim.Native.Nat.{_+_, _*_, _/_, _≤_};
+ghost use Prim.Native.Nat.{_+_, _*_, _/_, _%_, _≤_};
 ghost use lib.ListN.{length};
 ghost use Rattle.rules.specs.Recorder.{settingsGood, firstBad};
 ghost use Rattle.rules.specs.declared.Refusal.the-variants.{Sample};
 ghost use Rattle.rules.specs.Halves.{square, begin, halvesOf};
 ghost use Rattle.rules.specs.declared.Taken.the-variants.{Accepted};
 ghost use Rattle.checks.specs.Flags.{allInRange, RangedBelow, shapeCheck};
-ghost use Rattle.halves.specs.Steps.{part, window, stepRun, oddIn, sumsIn, stepIn, stepAt, joinedOf, Low, Addable};
+ghost use Rattle.halves.specs.Steps.{part, window, stepRun, lesserOf, greaterOf, stepIn, stepAt, joinedOf, Addable};
 use checks::all_in_range;
 use checks::first_bad;
-use checks::is_odd;
+use checks::is_high;
+use checks::is_low;
 use rules::Half;
 use rules::Refusal;
 use rules::Settings;
 use rules::Sums;
+use std::num::wrapping_add_u64;
 
 // The square of any i32, at most 2 ^ 62.
 pub fn square(x: i32) -> u64
@@ -54,48 +56,49 @@ fn run_of_step<'a>(s: Settings, samples: &'a [i32], j: u64) -> &'a [i32]
     part_of(samples, j * (n / 2), n / 2)
 }
 
-// Whether a sample is missing, or bad: one pass of flags, with no branch.
-fn has_odd(w: &[i32]) -> bool
-    ensures { λ r. ⌜ r ≡ oddIn (now (w .entry)) ⌝ }
+// The lesser of two samples.
+fn lesser(x: i32, y: i32) -> i32
+    ensures { λ r. ⌜ r ≡ lesserOf x y ⌝ }
 {
-    let mut found = false;
-    let mut i: usize = 0;
-    while i < w.len() {
-        found = found | is_odd(w[i]);
-        i += 1;
-    }
-    found
+    if y < x { y } else { x }
 }
 
-// The three sums of squares of a run with no odd sample: one pass, with no branch.
-fn sum_squares(w: &[i32]) -> Sums
+// The greater of two samples.
+fn greater(x: i32, y: i32) -> i32
+    ensures { λ r. ⌜ r ≡ greaterOf x y ⌝ }
+{
+    if x < y { y } else { x }
+}
+
+// A step's three sums of squares; unknown where a sample is missing, or bad. One pass, with no branch: the sums wrap where a sample
+// lies far outside the limits, and the lowest and the highest tell so.
+fn step_of(w: &[i32]) -> Half
     requires few { ⌜ length (now w) ≤ 768 ⌝ }
-    requires low { ⌜ Low (now w) ⌝ }
-    ensures { λ r. ⌜ r ≡ sumsIn (now (w .entry)) ⌝ }
+    requires threes { ⌜ length (now w) % 3 ≡ 0 ⌝ }
+    ensures { λ r. ⌜ r ≡ stepIn (now (w .entry)) ⌝ }
 {
     let n = w.len() / 3;
     let mut a: u64 = 0;
     let mut b: u64 = 0;
     let mut c: u64 = 0;
+    let mut low: i32 = 0;
+    let mut high: i32 = 0;
     let mut i: usize = 0;
     while i < n {
-        a += square(w[3 * i]);
-        b += square(w[3 * i + 1]);
-        c += square(w[3 * i + 2]);
+        let x = w[3 * i];
+        let y = w[3 * i + 1];
+        let z = w[3 * i + 2];
+        low = lesser(lesser(low, x), lesser(y, z));
+        high = greater(greater(high, x), greater(y, z));
+        a = wrapping_add_u64(a, square(x));
+        b = wrapping_add_u64(b, square(y));
+        c = wrapping_add_u64(c, square(z));
         i += 1;
     }
-    Sums { a: a, b: b, c: c }
-}
-
-// A step's sums; unknown where a sample is missing, or bad.
-fn step_of(w: &[i32]) -> Half
-    requires few { ⌜ length (now w) ≤ 768 ⌝ }
-    ensures { λ r. ⌜ r ≡ stepIn (now (w .entry)) ⌝ }
-{
-    if has_odd(w) {
+    if is_low(low) | is_high(high) {
         return Half::Unknown;
     }
-    Half::Known(sum_squares(w))
+    Half::Known(Sums { a: a, b: b, c: c })
 }
 
 // Step j of a recording of good length, which has H + 1 of them.

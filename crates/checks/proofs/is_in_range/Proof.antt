@@ -1,4 +1,4 @@
--- What is not odd lies within the limits. Assumes nothing.
+-- What is neither too low nor too high lies within the limits. Assumes nothing.
 use lib.Dec.{leb}
 use lib.IntN.{natAbs}
 use mir.Syntax.{w32}
@@ -6,6 +6,7 @@ use mir.ValLaws.{toZ-ofZ}
 use mathlib.Core.Path.{_≡_, refl}
 use mathlib.Core.Bool.{Bool, true, false, not}
 use borrow.Author.Needs.{needs}
+use Rattle.checks.proofs.Tests.{odd-is}
 use Rattle.checks.proofs.is_in_range.Statement.{statement}
 use Rattle.checks.proofs.is_in_range.Tie as tie
 
@@ -16,11 +17,24 @@ twice-not false = refl
 is-missing-requires : tie.Need-is-missing-requires
 is-missing-requires c κs = search needs
 
-is-odd-requires : tie.Need-is-odd-requires
-is-odd-requires c κs = search needs
+is-low-requires : tie.Need-is-low-requires
+is-low-requires c κs = search needs
+
+is-high-requires : tie.Need-is-high-requires
+is-high-requires c κs = search needs
 
 returns : tie.Need-returns
-returns c = rw (c .before .is-missing .ensures, c .is-odd .ensures, toZ-ofZ w32 (c .before .before .args .x) (c .before .before .fits .x), twice-not (leb (natAbs (c .before .before .args .x)) 100000))
+returns c =
+    let low = c .before in
+    let s = low .before .before in
+    rw (
+      low .before .is-missing .ensures,
+      low .is-low .ensures,
+      c .is-high .ensures,
+      toZ-ofZ w32 (s .args .x) (s .fits .x),
+      odd-is (s .args .x),
+      twice-not (leb (natAbs (s .args .x)) 100000),
+    )
 
 pub is-in-range-spec : {M : Type 1} → statement M
-is-in-range-spec = tie.close (tie.spec is-missing-requires is-odd-requires returns)
+is-in-range-spec = tie.close (tie.spec is-missing-requires is-low-requires is-high-requires returns)

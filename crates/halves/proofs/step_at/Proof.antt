@@ -3,7 +3,7 @@ use mathlib.Core.Path.{ap, _∙_}
 use denote.Ref.{now}
 use Rattle.rules.proofs.Ranges.{good}
 use Rattle.halves.specs.Steps.{stepIn, stepAt}
-use Rattle.halves.proofs.Steps.{step-fits, step-few}
+use Rattle.halves.proofs.Steps.{step-fits, step-few, step-threes}
 use Rattle.halves.proofs.step_at.Statement.{statement}
 use Rattle.halves.proofs.step_at.Tie as tie
 
@@ -12,7 +12,9 @@ run-of-step-requires c κs = step-fits _ _ (good _ (c .pre .0)) (c .pre .1) _ (c
 
 step-of-requires : tie.Need-step-of-requires
 step-of-requires c κs =
-    let s = c .before in rw (c .run-of-step .ensures) (step-few _ _ (good _ (s .pre .0)) (s .pre .1) _ (s .pre .2))
+    let s = c .before in
+    let g = good _ (s .pre .0) in
+    rw (c .run-of-step .ensures) (step-few _ _ g (s .pre .1) _ (s .pre .2), step-threes _ _ g (s .pre .1) _ (s .pre .2))
 
 returns : tie.Need-returns
 unfolding stepAt
