@@ -3,5 +3,5 @@ pub mod Surveys
 pub mod Gains
 pub mod Passes
 pub mod Rests
-pub mod Groups
+pub mod Surveying
 pub mod Tables

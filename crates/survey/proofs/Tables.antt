@@ -1,6 +1,6 @@
--- The whole recording, group by group: what the survey has reached before half-cycle k, and what its end and a bad sample make of it.
+-- The whole recording: what the survey has reached before half-cycle k, and what its end and a bad sample make of it.
 -- Where the end is reached every sample is in range, so the recording as it is read is the recording. Assumes nothing.
-use Prim.Native.Nat.{ℕ, suc, _+_, _*_, _≤_, _<_, min}
+use Prim.Native.Nat.{ℕ, suc, _*_, _≤_, _<_}
 use mathlib.Core.Path.{_≡_, sym, _∙_}
 use mathlib.Core.Bool.{Bool, true, false}
 use mathlib.Core.List.{List}
@@ -19,7 +19,7 @@ use Rattle.rules.specs.declared.Table.{Table}
 use Rattle.rules.specs.declared.Taken.the-variants.{Accepted}
 use Rattle.rules.proofs.Ranges.{good}
 use Rattle.checks.specs.Flags.{shapeCheck, allInRange, RangedBelow, asRead}
-use Rattle.checks.proofs.Reading.{by-range, range-good, range-bad, ranged-all, read-itself, read-halves, read-taken, read-accepted}
+use Rattle.checks.proofs.Reading.{by-range, range-good, range-bad, ranged-all, read-itself, read-halves, read-taken}
 use Rattle.halves.specs.Steps.{stepAt, stepRun}
 use Rattle.halves.proofs.Steps.{step-fits, steps-all, ranged-next, step-bad}
 use Rattle.kinds.specs.Machine.{thresholdsOf}
@@ -37,17 +37,11 @@ pub record Reached (s : Settings) (xs : List ℤ) (k : ℕ) (p : Survey) (step :
   pub step-is : step ≡ stepAt s xs k
   pub in-range : RangedBelow xs (3 * begin s (suc k))
 
-pub reached-there : {s : Settings} {xs : List ℤ} {p : Survey} {step : Half} {cs : List ℕ} (j k : ℕ) → j ≡ k → Reached s xs j p step cs → Reached s xs k p step cs
-reached-there j k e r = rw (sym e) r
-
--- what a group reached, where it met no bad sample
-pub group-reached : (s : Settings) (xs : List ℤ) (to : ℕ) (r : Surveyed) (cs : List ℕ) → SurveyedTo s xs to r cs → r .good ≡ true → Reached s xs to (r .survey) (r .step) cs
-group-reached s xs to r cs t e = record { state = t .state; cells-are = t .cells-are; step-is = t .step; in-range = t .in-range e }
+-- where no bad sample was met
+pub on-reached : (s : Settings) (xs : List ℤ) (from : ℕ) (r : Surveyed) (cs : List ℕ) → SurveyedTo s xs from r cs → r .good ≡ true → Reached s xs (r .k) (r .survey) (r .step) cs
+on-reached s xs from r cs t e = record { state = t .state; cells-are = t .cells-are; step-is = t .step; in-range = t .in-range e }
 
 module _ (s : Settings) (xs : List ℤ) (good-settings : settingsGood s ≡ true) (shaped : shapeCheck s xs ≡ Accepted) where
-  pub halves-high : halvesOf s xs ≤ 100000
-  halves-high = omega (arith, read-accepted s xs shaped .few, read-halves s xs)
-
   -- ---- the start
 
   pub start-reached : (p : Survey) (step : Half) (b : Bool) → p ≡ startSurvey → step ≡ stepAt s xs 0 → b ≡ allInRange (stepRun s xs 0) → b ≡ true
@@ -70,32 +64,34 @@ module _ (s : Settings) (xs : List ℤ) (good-settings : settingsGood s ≡ true
   ask-first = (omega arith, λ j l. absurd (omega arith))
 
   -- where it is looked for
-  pub ask-bad : {p : Survey} {step : Half} {cs : List ℕ} (k : ℕ) → k ≤ halvesOf s xs → Reached s xs k p step cs → (3 * begin s k ≤ length xs) × RangedBelow xs (3 * begin s k)
-  ask-bad k l r = (omega (arith, step-fits s xs (good s good-settings) shaped k l), λ j m. r .in-range j (omega arith))
+  pub ask-bad : {from : ℕ} {r : Surveyed} {cs : List ℕ} → SurveyedTo s xs from r cs → (3 * begin s (r .k) ≤ length xs) × RangedBelow xs (3 * begin s (r .k))
+  ask-bad {r = r} t = (omega (arith, step-fits s xs (good s good-settings) shaped (r .k) (t .high)), t .before-bad)
 
   pub turned : allInRange xs ≡ false → (q : Refusal) (r : Handed) → q ≡ Sample (firstBad xs) → r ≡ turnedAway s q → r ≡ tabled s xs
   unfolding tabled
   turned e q r f i = i ∙ rw (f, by-range s xs shaped, range-bad xs e)
 
-  -- ---- a group
+  -- ---- surveying on
 
-  module _ (m : Thresholds) (m-is : m ≡ thresholdsOf s) (halves : ℕ) (count-is : halves ≡ halvesOf s xs) where
-    pub ask-group : {p : Survey} {step : Half} {cs : List ℕ} (k to : ℕ) → k < halves → to ≡ min (k + 8) halves → Reached s xs k p step cs → Surveying s xs m p step k to cs
-    ask-group k to l e r =
-        record {
-          reading =
-              record {
-                good-settings = good-settings;
-                shaped = shaped;
-                thresholds = m-is;
-                ordered = omega arith;
-                high = omega arith;
-                step = r .step-is;
-              };
-          state = r .state;
-          cells-are = r .cells-are;
-          in-range = r .in-range;
-        }
+  pub ask-next : {m : Thresholds} {halves : ℕ} {p : Survey} {step : Half} {cs : List ℕ} (k : ℕ) → m ≡ thresholdsOf s → halves ≡ halvesOf s xs → k < halves → Reached s xs k p step cs
+      → Surveying s xs m halves p step k cs
+  ask-next k e f l r =
+      record {
+        reading =
+            record {
+              good-settings = good-settings;
+              shaped = shaped;
+              thresholds = e;
+              ordered = omega arith;
+              high = omega arith;
+              step = r .step-is;
+            };
+        halves-are = f;
+        more = l;
+        state = r .state;
+        cells-are = r .cells-are;
+        in-range = r .in-range;
+      }
 
   -- ---- the end
 

@@ -1,5 +1,5 @@
 -- The pass over a recording that a site table takes, as the code runs it; proofs/ ties it to the rules.
-use Prim.Native.Nat.{ℕ, zero, suc, _+_, _-_, _*_, _≤_}
+use Prim.Native.Nat.{ℕ, zero, suc, _+_, _-_, _*_, _≤_, _<_}
 use mathlib.Core.Path.{_≡_}
 use mathlib.Core.Bool.{Bool, true, false, not, _&&_, _||_, cond}
 use mathlib.Core.List.{List}
@@ -212,21 +212,26 @@ startSurvey =
       landed = record { unplaced = 0; shortfall = 0 };
     }
 
--- ---- a group of half-cycles
+-- ---- the quiet half-cycles and the next
 
--- what it asks: the state before it, and that all samples up to its first step are in range
-pub record Surveying (s : Settings) (xs : List ℤ) (m : Thresholds) (p : Survey) (first : Half) (from to : ℕ) (cs : List ℕ) : Type 0 where
-  pub reading : Reading s xs m from to first
+-- what surveying on from half-cycle `from` asks: the state before it, and that all samples up to its first step are in range
+pub record Surveying (s : Settings) (xs : List ℤ) (m : Thresholds) (halves : ℕ) (p : Survey) (first : Half) (from : ℕ) (cs : List ℕ) : Type 0 where
+  pub reading : Reading s xs m from halves first
+  pub halves-are : halves ≡ halvesOf s xs
+  pub more : from < halves
   pub state : p ≡ surveyAt s (halfAt s (asRead xs)) (halvesOf s (asRead xs)) from
   pub cells-are : cs ≡ cellsAt s (halfAt s (asRead xs)) (halvesOf s (asRead xs)) from
   pub in-range : RangedBelow xs (3 * begin s (suc from))
 
--- what it gives, of the recording as it is read
-pub record SurveyedTo (s : Settings) (xs : List ℤ) (to : ℕ) (r : Surveyed) (cs : List ℕ) : Type 0 where
-  pub state : r .survey ≡ surveyAt s (halfAt s (asRead xs)) (halvesOf s (asRead xs)) to
-  pub cells-are : cs ≡ cellsAt s (halfAt s (asRead xs)) (halvesOf s (asRead xs)) to
-  pub step : r .step ≡ stepAt s xs to
-  pub in-range : r .good ≡ true → RangedBelow xs (3 * begin s (suc to))
+-- what it finds, of the recording as it is read
+pub record SurveyedTo (s : Settings) (xs : List ℤ) (from : ℕ) (r : Surveyed) (cs : List ℕ) : Type 0 where
+  pub more : from < r .k
+  pub high : r .k ≤ halvesOf s xs
+  pub state : r .survey ≡ surveyAt s (halfAt s (asRead xs)) (halvesOf s (asRead xs)) (r .k)
+  pub cells-are : cs ≡ cellsAt s (halfAt s (asRead xs)) (halvesOf s (asRead xs)) (r .k)
+  pub step : r .step ≡ stepAt s xs (r .k)
+  pub in-range : r .good ≡ true → RangedBelow xs (3 * begin s (suc (r .k)))
+  pub before-bad : RangedBelow xs (3 * begin s (r .k))
   pub bad : r .good ≡ false → allInRange xs ≡ false
 
 -- ---- the whole recording

@@ -8,6 +8,8 @@ ghost use Rattle.rules.specs.Events.{three};
 ghost use Rattle.rules.specs.Site.{empty};
 ghost use Rattle.rules.specs.declared.Taken.the-variants.{Accepted};
 ghost use Rattle.checks.specs.Flags.{shapeCheck};
+ghost use Rattle.halves.specs.Steps.{stepAt};
+ghost use Rattle.quiet.specs.Quiet.{quietTill, Reading};
 ghost use Rattle.kinds.specs.Machine.{Light};
 ghost use Rattle.survey.specs.Pass.{trackedBy, classedBy, startedBy, landedBy, cellsBy, Placeable, Landable, Turnable, surveyedBy, cellsTurned, goingOn, passedOver, Surveying, SurveyedTo, startSurvey, turnedAway, tabled};
 use checks::count_halves;
@@ -23,7 +25,7 @@ use kinds::level_at;
 use kinds::none;
 use kinds::step;
 use kinds::thresholds_of;
-use numbers::min;
+use quiet::Stretch;
 use quiet::pass_quiet;
 use rules::Half;
 use rules::Kind;
@@ -70,10 +72,11 @@ pub struct Survey {
     pub landed: Landed,
 }
 
-// What a group of half-cycles makes of a survey: that after it, the step after it, and whether all of its samples are in range.
+// How far the survey has come: that before half-cycle k, that one's first step, and whether all samples so far are in range.
 pub struct Surveyed {
     pub survey: Survey,
     pub step: Half,
+    pub k: u64,
     pub good: bool,
 }
 
@@ -270,34 +273,61 @@ fn pass_over(p: Survey, more: u64) -> Survey
     }
 }
 
-// A group of half-cycles, `from` to `to`, whose first step is `first`: the quiet ones at its front are passed over, and the machine
-// takes the rest.
-fn survey_group(
+// The first half-cycle from `from` on for the machine: where nothing is going on the quiet ones are passed over.
+fn calm_from(
     s: Settings,
     m: Thresholds,
+    halves: u64,
+    samples: &[i32],
+    t: Track,
+    first: Half,
+    from: u64,
+) -> Stretch
+    requires { ⌜ Reading s (now samples) m from halves first ⌝ }
+    ensures { λ r. ⌜ (r .k ≡ cond (goingOn t) from (quietTill s (now (samples .entry)) from halves)) × (r .step ≡ stepAt s (now (samples .entry)) (r .k)) ⌝ }
+{
+    if is_open(t) {
+        return Stretch {
+            k: from,
+            step: first,
+        };
+    }
+    pass_quiet(s, m, samples, from, halves, first)
+}
+
+// Surveys on from half-cycle `from`: the quiet ones are passed over, and the machine takes the next.
+fn survey_next(
+    s: Settings,
+    m: Thresholds,
+    halves: u64,
     samples: &[i32],
     p: Survey,
     first: Half,
     from: u64,
-    to: u64,
     cells: &mut [u64; 40],
 ) -> Surveyed
-    requires { ⌜ Surveying s (now samples) m p first from to (now cells) ⌝ }
-    ensures { λ r. ⌜ SurveyedTo s (now (samples .entry)) to r (now (cells .exit)) ⌝ }
+    requires { ⌜ Surveying s (now samples) m halves p first from (now cells) ⌝ }
+    ensures { λ r. ⌜ SurveyedTo s (now (samples .entry)) from r (now (cells .exit)) ⌝ }
 {
-    let calm = pass_quiet(s, m, samples, is_open(p.track), from, to, first);
-    let mut survey = pass_over(p, calm.k - from);
-    let mut step = calm.step;
-    let mut good = true;
-    let mut k = calm.k;
-    while k < to {
-        let next = step_at(s, samples, k + 1);
-        good = good & step_in_range(s, samples, k + 1, next);
-        survey = survey_turn(s, m, joined(step, next), survey, k, cells);
-        step = next;
-        k += 1;
+    let calm = calm_from(s, m, halves, samples, p.track, first, from);
+    let step = calm.step;
+    let k = calm.k;
+    let survey = pass_over(p, k - from);
+    if k == halves {
+        return Surveyed {
+            survey,
+            step,
+            k,
+            good: true,
+        };
     }
-    Surveyed { survey, step, good }
+    let next = step_at(s, samples, k + 1);
+    Surveyed {
+        survey: survey_turn(s, m, joined(step, next), survey, k, cells),
+        step: next,
+        k: k + 1,
+        good: step_in_range(s, samples, k + 1, next),
+    }
 }
 
 // A table of the settings with every count 0.
@@ -343,25 +373,15 @@ pub fn table_of(s: Settings, samples: &[i32]) -> Site
     if !step_in_range(s, samples, 0, step) {
         return turned_away(s, bad_sample(s, samples, 0));
     }
-    let mut g: u64 = 0;
-    while 8 * g < halves {
-        let from = 8 * g;
-        let group = survey_group(
-            s,
-            m,
-            samples,
-            p,
-            step,
-            from,
-            min(from + 8, halves),
-            &mut cells,
-        );
-        if !group.good {
-            return turned_away(s, bad_sample(s, samples, from));
+    let mut k: u64 = 0;
+    while k < halves {
+        let on = survey_next(s, m, halves, samples, p, step, k, &mut cells);
+        if !on.good {
+            return turned_away(s, bad_sample(s, samples, on.k));
         }
-        p = group.survey;
-        step = group.step;
-        g += 1;
+        p = on.survey;
+        step = on.step;
+        k = on.k;
     }
     let track = p.track;
     let open = track.sag;

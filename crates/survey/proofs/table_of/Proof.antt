@@ -1,22 +1,21 @@
--- The invariant: before group g the survey has reached its first half-cycle, or H at the end. The measure is what is left of the
+-- The invariant: before half-cycle k the survey has reached it, which is what surveying on asks. The measure is what is left of the
 -- half-cycles. Assumes nothing.
-use Prim.Native.Nat.{ℕ, _+_, _-_, _*_, _≤_, _<_, min}
-use mathlib.Core.Path.{_≡_, _∙_}
+use Prim.Native.Nat.{ℕ, _-_, _≤_}
+use mathlib.Core.Path.{_≡_}
 use native.Mathlib.Omega.{arith}
 use borrow.Author.Needs.{needs}
 use borrow.Author.Tests.{not-true, not-false}
 use denote.Ref.{now}
 use Rattle.rules.specs.Halves.{halvesOf}
-use Rattle.survey.proofs.Tables.{Reached, reached-there, group-reached, halves-high, start-reached, first-bad-step, ask-first, ask-bad, turned, ask-group, ask-end, end-made}
+use Rattle.survey.proofs.Tables.{Reached, on-reached, start-reached, first-bad-step, ask-first, ask-bad, turned, ask-next, ask-end, end-made}
 use Rattle.survey.proofs.table_of.Statement.{statement}
 use Rattle.survey.proofs.table_of.Tie as tie
 
 abbrev Inv-loop : tie.InvT-loop
-Inv-loop s samples halves m cells₀ p₀ step₀ g₀ cells p step g =
-    (8 * g ≤ halves + 7) × Reached s samples (min (8 * g) halves) p step cells
+Inv-loop s samples halves m cells₀ p₀ step₀ k₀ cells p step k = (k ≤ halves) × Reached s samples k p step cells
 
 abbrev μ-loop : tie.MeasureT-loop
-μ-loop s samples halves m cells₀ p₀ step₀ g₀ cells p step g = halves - 8 * g
+μ-loop s samples halves m cells₀ p₀ step₀ k₀ cells p step k = halves - k
 
 -- where the loop stands, and where all of it began
 abbrev L : Type 0
@@ -31,27 +30,12 @@ start t = counting t .before
 abbrev many : L → ℕ
 many t = counting t .count-halves .result
 
-abbrev group : L → ℕ
-group t = t .loop .g
-
--- the half-cycles are few, and the groups do not go past them
 counted : (t : L) → many t ≡ halvesOf (start t .args .s) (now (start t .args .samples))
 counted t = counting t .count-halves .ensures
 
-few : (t : L) → many t ≤ 100000
-few t = rw (counted t) (halves-high _ _ (start t .pre .0) (start t .pre .1))
-
--- in a turn the group's first half-cycle is reached
-below : (t : tie.In-loop Inv-loop μ-loop) → 8 * group (t .before) < many (t .before)
-below t = omega (arith, t .loop-test .taken)
-
-here : (t : tie.In-loop Inv-loop μ-loop)
-    → Reached (start (t .before) .args .s) (now (start (t .before) .args .samples)) (8 * group (t .before)) (t .before .loop .p) (t .before .loop .step) (t .before .loop .cells)
-here t = reached-there (min (8 * group (t .before)) (many (t .before))) _ (omega (arith, below t)) (t .before .loop .inv .1)
-
--- at the end H is
-ended : (t : L) → many t ≤ 8 * group t → min (8 * group t) (many t) ≡ many t
-ended t l = omega arith
+-- at the end it stands before H
+ended : (e : tie.After-loop Inv-loop μ-loop) → e .before .loop .k ≡ many (e .before)
+ended e = omega (arith, e .loop-test .left, e .before .loop .inv .0)
 
 count-halves-requires : tie.Need-count-halves-requires Inv-loop μ-loop
 count-halves-requires c κs = search needs
@@ -84,62 +68,46 @@ loop-holds : tie.Need-loop-holds Inv-loop μ-loop
 loop-holds c =
     let i = c .before in
     let v = i .before .before .before .before .before .pre in
-    (omega arith, reached-there 0 (min (8 * 0) _) (omega arith) (start-reached _ _ (v .0) (v .1) _ _ _ (i .before .before .start-survey .ensures) (i .before .step-at .ensures) (i .step-in-range .ensures) (not-false _ (c .if1 .left))))
+    (omega arith, start-reached _ _ (v .0) (v .1) _ _ _ (i .before .before .start-survey .ensures) (i .before .step-at .ensures) (i .step-in-range .ensures) (not-false _ (c .if1 .left)))
 
-mul-loop : tie.Need-mul-loop Inv-loop μ-loop
-mul-loop c = omega (arith, c .loop .inv .0, few c)
-
-mul-from : tie.Need-mul-from Inv-loop μ-loop
-mul-from c = omega (arith, below c, few (c .before))
-
-add-min : tie.Need-add-min Inv-loop μ-loop
-add-min c = omega (arith, below c, few (c .before))
-
-min-requires : tie.Need-min-requires Inv-loop μ-loop
-min-requires c κs = search needs
-
-survey-group-requires : tie.Need-survey-group-requires Inv-loop μ-loop
-survey-group-requires c κs =
-    let t = c .before .before in
-    let v = start (t .before) .pre in
-    ask-group _ _ (v .0) (v .1) _ (t .before .before .before .before .before .before .thresholds-of .ensures) _ (counted (t .before)) _ _ (below t) (c .before .min .ensures) (here t)
+survey-next-requires : tie.Need-survey-next-requires Inv-loop μ-loop
+survey-next-requires c κs =
+    let t = c .before in
+    let l = t .before in
+    let v = start l .pre in
+    ask-next _ _ (v .0) (v .1) _ (l .before .before .before .before .before .thresholds-of .ensures) (counted l) (t .loop-test .taken) (l .loop .inv .1)
 
 bad-sample-requires-2 : tie.Need-bad-sample-requires-2 Inv-loop μ-loop
 bad-sample-requires-2 c κs =
-    let t = c .before .before .before .before .before in
-    let v = start (t .before) .pre in
-    ask-bad _ _ (v .0) (v .1) _ (omega (arith, below t, counted (t .before))) (here t)
+    let r = c .before .before in
+    let v = start (r .before .before .before) .pre in ask-bad _ _ (v .0) (v .1) (r .survey-next .ensures)
 
 turned-away-requires-2 : tie.Need-turned-away-requires-2 Inv-loop μ-loop
 turned-away-requires-2 c κs = search needs
 
 returns-2 : tie.Need-returns-2 Inv-loop μ-loop
 returns-2 c =
-    let g = c .before .before .before .before in
-    let v = start (g .before .before .before .before) .pre in
-    turned _ _ (v .0) (v .1) (g .survey-group .ensures .bad (not-true _ (c .before .before .if2 .taken))) _ _ (c .before .bad-sample2 .ensures) (c .turned-away2 .ensures)
-
-add-g : tie.Need-add-g Inv-loop μ-loop
-add-g c =
-    let t = c .before .before .before .before .before .before in omega (arith, below t, few (t .before))
+    let r = c .before .before .before .before in
+    let v = start (r .before .before .before) .pre in
+    turned _ _ (v .0) (v .1) (r .survey-next .ensures .bad (not-true _ (c .before .before .if2 .taken))) _ _ (c .before .bad-sample2 .ensures) (c .turned-away2 .ensures)
 
 loop-less : tie.Need-loop-less Inv-loop μ-loop
-loop-less c = omega (arith, below (c .before .before .before .before .before .before))
+loop-less c =
+    let r = c .before .before .before in
+    omega (arith, r .survey-next .ensures .more, r .survey-next .ensures .high, counted (r .before .before .before))
 
 loop-again : tie.Need-loop-again Inv-loop μ-loop
 loop-again c =
-    let g = c .before .before .before in
-    let t = g .before .before .before in (
-      omega (arith, below t),
-      reached-there (g .before .before .min .result) _ (g .before .before .min .ensures ∙ omega arith) (group-reached _ _ _ _ _ (g .survey-group .ensures) (not-false _ (c .before .if2 .left))),
-    )
+    let r = c .before .before .before in
+    let e = r .survey-next .ensures in
+    (omega (arith, e .high, counted (r .before .before .before)), on-reached _ _ _ _ _ e (not-false _ (c .before .if2 .left)))
 
 land-requires : tie.Need-land-requires Inv-loop μ-loop
 land-requires c κs =
     let e = c .before .before .before in
     let t = e .before in
     let v = start t .pre in
-    ask-end _ _ (v .0) (v .1) _ _ _ _ _ (counted t) (ended t (e .loop-test .left)) (t .loop .inv .1)
+    ask-end _ _ (v .0) (v .1) _ _ _ _ _ (counted t) (ended e) (t .loop .inv .1)
 
 returns-3 : tie.Need-returns-3 Inv-loop μ-loop
 returns-3 c =
@@ -147,7 +115,7 @@ returns-3 c =
     let t = e .before in
     let v = start t .pre in
     let l = c .before .before .land .ensures in
-    end-made _ _ (v .0) (v .1) _ _ _ _ _ (counted t) (ended t (e .loop-test .left)) (t .loop .inv .1) _ _ (l .0) (l .1)
+    end-made _ _ (v .0) (v .1) _ _ _ _ _ (counted t) (ended e) (t .loop .inv .1) _ _ (l .0) (l .1)
 
 pub table-of-spec : {M : Type 1} → statement M
 table-of-spec =
@@ -164,15 +132,10 @@ table-of-spec =
     turned-away-requires
     returns
     loop-holds
-    mul-loop
-    mul-from
-    add-min
-    min-requires
-    survey-group-requires
+    survey-next-requires
     bad-sample-requires-2
     turned-away-requires-2
     returns-2
-    add-g
     loop-less
     loop-again
     land-requires
