@@ -2,7 +2,7 @@
 -- recording, the code of its runs; the recording is read as a pass reads it, so that nothing is asked of its samples. Assumes nothing.
 use Prim.Native.Nat.{ℕ, zero, suc, _+_, _-_, _*_, _/_, _%_, _≤_, _<_}
 use mathlib.Core.Path.{_≡_, refl, sym, ap, _∙_}
-use mathlib.Core.Bool.{Bool, true, false, not, _&&_, _||_, cond, false≢true}
+use mathlib.Core.Bool.{Bool, true, false, not, _||_, cond, false≢true}
 use mathlib.Core.List.{List}
 use mathlib.Core.Logic.{⊎-elim}
 use native.Mathlib.Nat.{mul-div-mul-left, div-add-mod', mul-le-mul-right}
@@ -26,7 +26,7 @@ use Rattle.rules.proofs.Choices.{lower}
 use Rattle.rules.proofs.Samples.{any-at, window-fits}
 use Rattle.checks.specs.Flags.{shapeCheck, odd, allInRange, RangedBelow, asRead, readAs}
 use Rattle.checks.proofs.Reading.{all-ranged, ranged-all, even-ranged, even-read, missing-read, read-length, read-at, read-halves, read-accepted}
-use Rattle.halves.specs.Steps.{stepRun, oddIn, squaresIn, sumsIn, stepIn, stepAt, joinedOf, Low, Addable}
+use Rattle.halves.specs.Steps.{stepRun, oddIn, squaresIn, sumsIn, stepIn, stepAt, joinedOf, Addable}
 use Rattle.halves.proofs.Parts.{part-length, part-at, part-samples, sample-is, squares-in-low, low-run}
 
 -- ---- sums and flags in two parts

@@ -14,7 +14,6 @@ use lib.ListN.{length, getD}
 use Rattle.rules.specs.Bounded.{any, sum}
 use Rattle.rules.specs.Recorder.{sampleAt}
 use Rattle.rules.specs.Halves.{samplesOf, square}
-use Rattle.rules.specs.declared.Sums.{Sums}
 use Rattle.rules.specs.declared.Half.{Half}
 use Rattle.rules.specs.declared.Half.the-variants.{Unknown, Known}
 use Rattle.rules.proofs.Booleans.{cases}

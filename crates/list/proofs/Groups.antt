@@ -1,6 +1,6 @@
 -- The writing pass goes from one noted group to the next: what lies between is turns at which nothing goes on, and the groups that follow one
 -- behind the other are one run of turns. Assumes nothing.
-use Prim.Native.Nat.{ℕ, zero, suc, _+_, _-_, _*_, _/_, _≤_, _<_, min}
+use Prim.Native.Nat.{ℕ, suc, _+_, _-_, _*_, _/_, _≤_, _<_, min}
 use mathlib.Core.Path.{_≡_, refl, sym, ap, subst, _∙_}
 use mathlib.Core.Bool.{Bool, true, false, false≢true}
 use mathlib.Core.List.{List}
@@ -20,9 +20,8 @@ use Rattle.rules.proofs.Runs.{first-go}
 use Rattle.kinds.specs.declared.Thresholds.{Thresholds}
 use Rattle.quiet.specs.Quiet.{Resting}
 use Rattle.list.specs.declared.Pass.{Pass}
-use Rattle.list.specs.declared.Written.{Written}
 use Rattle.list.specs.Listing.{ReadyAll, turns, turnsOut, rested, differs, Running, WritingOn, WrittenTo}
-use Rattle.list.proofs.Turns.{calmed, rested-some, rested-none, turns-rest, outs-rest, turns-add, outs-add, turns-start, outs-start}
+use Rattle.list.proofs.Turns.{rested-some, rested-none, turns-rest, outs-rest, turns-add, outs-add, turns-start}
 
 -- ---- turns from a to b, at which nothing goes on, and then from b to c
 

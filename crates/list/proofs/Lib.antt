@@ -1,9 +1,6 @@
--- The two passes of the lister give the list of the rules.
+-- The writing pass gives the list of the rules.
 pub mod Slots
 pub mod Writing
-pub mod Tallies
-pub mod Notes
-pub mod Counting
 pub mod Visits
 pub mod Turns
 pub mod Groups

@@ -1,7 +1,7 @@
 -- What a pass may say of the half-cycles that it passed over: nothing goes on at them, and all their samples are in range. Assumes
 -- nothing.
-use Prim.Native.Nat.{ℕ, zero, suc, _+_, _-_, _*_, _≤_, _<_}
-use mathlib.Core.Path.{_≡_, refl, sym, ap, _∙_}
+use Prim.Native.Nat.{ℕ, zero, suc, _-_, _*_, _≤_, _<_}
+use mathlib.Core.Path.{_≡_, refl}
 use mathlib.Core.Bool.{Bool, true, false, cond, false≢true}
 use mathlib.Core.List.{List}
 use mathlib.Core.Logic.{⊎-elim}
@@ -18,7 +18,7 @@ use Rattle.rules.specs.declared.Kind.{Kind}
 use Rattle.rules.proofs.Longest.{first-low, first-high, first-between}
 use Rattle.rules.proofs.Ranges.{good}
 use Rattle.checks.specs.Flags.{RangedBelow, asRead}
-use Rattle.checks.proofs.Reading.{read-halves, read-accepted}
+use Rattle.checks.proofs.Reading.{read-accepted}
 use Rattle.halves.specs.Steps.{stepAt, joinedOf}
 use Rattle.halves.proofs.Steps.{half-of-steps, known-step, ranged-next}
 use Rattle.kinds.specs.Machine.{Few}

@@ -1,6 +1,5 @@
 -- A step up to the last lies within the run, and the pass over it finds what it is. Assumes nothing.
 use mathlib.Core.Path.{ap, _∙_}
-use denote.Ref.{now}
 use Rattle.rules.proofs.Ranges.{good}
 use Rattle.halves.specs.Steps.{stepIn, stepAt}
 use Rattle.halves.proofs.Steps.{step-fits, step-few, step-threes}

@@ -4,7 +4,6 @@ use mathlib.Core.Path.{_≡_, sym, ap, _∙_}
 use mathlib.Core.List.{List}
 use native.Mathlib.Numerals.{add-one}
 use native.Mathlib.Omega.{arith}
-use denote.Ref.{now}
 use lib.IntN.{ℤ}
 use Rattle.rules.specs.Halves.{halfAt, halvesOf}
 use Rattle.rules.proofs.Longest.{half-past}

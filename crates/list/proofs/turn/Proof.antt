@@ -4,7 +4,6 @@ use mathlib.Core.Path.{_≡_, refl, ap, _∙_}
 use native.Mathlib.Omega.{arith}
 use borrow.Author.Needs.{needs}
 use denote.Ref.{now}
-use lib.ListN.{length}
 use Rattle.rules.specs.Halves.{halfAt}
 use Rattle.rules.proofs.Ranges.{good}
 use Rattle.rules.proofs.Samples.{accepted-recording}

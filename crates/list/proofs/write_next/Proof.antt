@@ -1,10 +1,9 @@
 -- There is a noted group, for the last is; what lies before it is turns at which nothing goes on. Assumes nothing.
-use Prim.Native.Nat.{suc, _+_, _/_, _≤_}
-use mathlib.Core.Path.{_≡_}
+use Prim.Native.Nat.{_+_, _/_, _≤_}
 use native.Mathlib.Numerals.{add-one}
 use native.Mathlib.Omega.{arith}
 use Rattle.rules.proofs.Samples.{accepted-recording}
-use Rattle.list.proofs.Groups.{from-low, from-high, to-low, to-high, run-asks, written}
+use Rattle.list.proofs.Groups.{from-high, to-high, run-asks, written}
 use borrow.Author.Needs.{needs}
 use Rattle.list.proofs.write_next.Statement.{statement}
 use Rattle.list.proofs.write_next.Tie as tie

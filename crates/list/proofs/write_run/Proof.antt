@@ -1,14 +1,14 @@
 -- The invariant: the pass and the run are what the turns from the first half-cycle on make of them, and the step is that of k. The measure is
 -- what is left of the half-cycles. Assumes nothing.
-use Prim.Native.Nat.{ℕ, suc, _+_, _-_, _≤_, _<_}
-use mathlib.Core.Path.{_≡_, refl, sym, ap, _∙_}
+use Prim.Native.Nat.{ℕ, _-_, _≤_}
+use mathlib.Core.Path.{_≡_, sym, ap, _∙_}
 use native.Mathlib.Omega.{arith}
 use borrow.Author.Needs.{needs}
 use denote.Ref.{now}
 use lib.ListN.{length}
 use Rattle.checks.proofs.Reading.{accepted-shape}
 use Rattle.halves.specs.Steps.{stepAt}
-use Rattle.list.specs.Listing.{turned, turnedOut, turns, turnsOut, ReadyAll}
+use Rattle.list.specs.Listing.{turns, turnsOut}
 use Rattle.list.proofs.Turns.{turns-start, outs-start, pass-more, out-more, ready-here}
 use Rattle.list.proofs.Writing.{outs-length}
 use Rattle.list.proofs.write_run.Statement.{statement}

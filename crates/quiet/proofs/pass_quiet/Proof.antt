@@ -1,8 +1,8 @@
 -- The invariant: the first half-cycle from k on that is not quiet is the first of all, and the step is that of k. The measure is what is
 -- left of the half-cycles. Assumes nothing.
-use Prim.Native.Nat.{ℕ, suc, _+_, _-_, _≤_, _<_}
+use Prim.Native.Nat.{ℕ, _+_, _-_, _≤_, _<_}
 use mathlib.Core.Path.{_≡_, refl, sym, ap, _∙_}
-use mathlib.Core.Bool.{Bool, true, false, cond}
+use mathlib.Core.Bool.{Bool}
 use mathlib.Core.List.{List}
 use native.Mathlib.Numerals.{add-one}
 use native.Mathlib.Omega.{arith}
@@ -10,14 +10,13 @@ use borrow.Author.Tests.{not-true, not-false}
 use denote.Ref.{now}
 use lib.IntN.{ℤ}
 use Rattle.rules.specs.Bounded.{firstNot}
-use Rattle.rules.specs.Halves.{halfAt, halvesOf}
+use Rattle.rules.specs.Halves.{halfAt}
 use Rattle.rules.specs.declared.Settings.{Settings}
 use Rattle.rules.proofs.Ranges.{good}
 use Rattle.rules.proofs.Runs.{first-go, first-stop, first-end}
 use Rattle.checks.specs.Flags.{asRead}
 use Rattle.halves.specs.Steps.{stepAt, joinedOf}
 use Rattle.halves.proofs.Steps.{step-addable}
-use Rattle.kinds.specs.Machine.{Few}
 use Rattle.quiet.specs.Quiet.{isQuiet}
 use Rattle.quiet.proofs.Quiet.{quiet-told}
 use Rattle.quiet.proofs.Stretches.{half-here, few-here}

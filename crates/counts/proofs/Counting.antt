@@ -1,15 +1,13 @@
 -- Counting on: after the quiet half-cycles and one by the machine the tally is that of the rules, the samples so far are in range or one is
 -- bad, and nothing goes on at what was passed over. Assumes nothing.
 use Prim.Native.Nat.{ℕ, suc, _+_, _*_, _/_, _≤_, _<_}
-use mathlib.Core.Path.{_≡_, refl, sym, ap, _∙_}
+use mathlib.Core.Path.{_≡_, sym, ap, _∙_}
 use mathlib.Core.Bool.{Bool, true, false, cond, false≢true}
 use mathlib.Core.List.{List}
 use native.Mathlib.Numerals.{add-one}
-use native.Mathlib.Nat.{add-zero}
 use native.Mathlib.Omega.{arith}
 use lib.IntN.{ℤ}
 use lib.ListN.{length, getD}
-use Rattle.rules.specs.Bounded.{bit}
 use Rattle.rules.specs.Halves.{begin, halfAt, halvesOf}
 use Rattle.rules.specs.Recorder.{firstBad}
 use Rattle.rules.specs.EventList.{eventsOf}
@@ -28,16 +26,15 @@ use Rattle.checks.specs.Flags.{allInRange, RangedBelow, asRead, shapeCheck}
 use Rattle.checks.proofs.Reading.{by-range, range-good, range-bad, ranged-all, read-halves, read-itself, read-accepted}
 use Rattle.halves.specs.Steps.{stepRun, stepAt, joinedOf, Addable}
 use Rattle.halves.proofs.Steps.{steps-all, step-addable, ranged-next, step-bad}
-use Rattle.kinds.specs.Machine.{thresholdsOf, Marked, Few}
+use Rattle.kinds.specs.Machine.{Marked, Few}
 use Rattle.kinds.specs.declared.Thresholds.{Thresholds}
 use Rattle.kinds.proofs.Limits.{marked}
 use Rattle.quiet.specs.Quiet.{quietTill, Resting}
 use Rattle.quiet.proofs.Stretches.{half-here, few-here, stop-low, stop-high, calm-rests, calm-ranged}
-use Rattle.list.specs.declared.Tally.{Tally}
-use Rattle.list.specs.declared.Counted.{Counted}
-use Rattle.list.specs.Listing.{tallied, tallyOf, goingOn, Counting, CountedTo, Noted}
-use Rattle.list.proofs.Tallies.{tally-next, tally-few, tally-stays, tally-all, none-open}
-use Rattle.list.proofs.Notes.{NotedBelow}
+use Rattle.counts.specs.declared.Tally.{Tally}
+use Rattle.counts.specs.Counting.{tallied, tallyOf, goingOn, Counting, CountedTo, Noted}
+use Rattle.counts.proofs.Tallies.{tally-next, tally-few, tally-stays, tally-all, none-open}
+use Rattle.counts.proofs.Notes.{NotedBelow}
 
 module _ {s : Settings} {xs : List ℤ} {m : Thresholds} {halves : ℕ} {t : Tally} {first : Half} {from : ℕ} (v : Counting s xs m halves t first from)
     (stop : ℕ) (is : stop ≡ cond (goingOn t) from (quietTill s xs from halves)) where

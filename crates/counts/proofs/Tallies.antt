@@ -20,9 +20,9 @@ use Rattle.rules.specs.declared.Settings.{Settings}
 use Rattle.rules.specs.declared.Half.{Half}
 use Rattle.rules.specs.declared.Kind.{Kind}
 use Rattle.rules.specs.declared.Kind.the-variants.{Sag, Interruption, Swell}
-use Rattle.list.specs.declared.Tally.{Tally}
+use Rattle.counts.specs.declared.Tally.{Tally}
 use Rattle.kinds.specs.Machine.{thresholdsOf, levelOf}
-use Rattle.list.specs.Listing.{tallied, tallyOf, goingOn}
+use Rattle.counts.specs.Counting.{tallied, tallyOf, goingOn}
 use Rattle.quiet.specs.Quiet.{Resting}
 use Rattle.kinds.proofs.Machine.{goes-here}
 

@@ -1,8 +1,8 @@
 -- A group below 25,001 has a place for its note. Assumes nothing.
-use Rattle.list.specs.Listing.{notedAt}
+use Rattle.counts.specs.Counting.{notedAt}
 use borrow.Author.Needs.{needs}
-use Rattle.list.proofs.note.Statement.{statement}
-use Rattle.list.proofs.note.Tie as tie
+use Rattle.counts.proofs.note.Statement.{statement}
+use Rattle.counts.proofs.note.Tie as tie
 
 element-copy-out-notes : tie.Need-element-copy-out-notes
 element-copy-out-notes c = search needs

@@ -1,10 +1,10 @@
 -- Three tests on one level, and 1 for each kind that rises. Assumes nothing.
 use Prim.Native.Nat.{_+_, _≤_}
 use native.Mathlib.Omega.{arith}
-use Rattle.list.specs.Listing.{tallied}
+use Rattle.counts.specs.Counting.{tallied}
 use borrow.Author.Needs.{needs}
-use Rattle.list.proofs.count_turn.Statement.{statement}
-use Rattle.list.proofs.count_turn.Tie as tie
+use Rattle.counts.proofs.count_turn.Statement.{statement}
+use Rattle.counts.proofs.count_turn.Tie as tie
 
 -- each kind rises once at the most
 risen : (c : tie.After-rise3) → c .before .before .rise .result + c .before .rise2 .result + c .rise3 .result ≤ 3

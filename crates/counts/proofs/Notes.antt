@@ -8,7 +8,7 @@ use native.Mathlib.Nat.{eq-or-lt-of-le}
 use native.Mathlib.Omega.{arith}
 use borrow.Author.Tests.{eqb-true, eqb-false}
 use lib.Dec.{eqb}
-use lib.ListN.{length, getD, set, length-set}
+use lib.ListN.{length, getD, length-set}
 use lib.Seq.{getD-set-same, getD-set-other}
 use Rattle.rules.specs.Bounded.{bit}
 use Rattle.rules.specs.declared.Settings.{Settings}
@@ -16,7 +16,7 @@ use Rattle.rules.specs.declared.Half.{Half}
 use Rattle.rules.proofs.Booleans.{cases, neither}
 use Rattle.rules.proofs.Choices.{lower}
 use Rattle.quiet.specs.Quiet.{Resting}
-use Rattle.list.specs.Listing.{notedAt}
+use Rattle.counts.specs.Counting.{notedAt}
 
 -- what is said of the half-cycles before k
 abbrev pub NotedBelow : Settings → (ℕ → Half) → List Bool → ℕ → Type 0

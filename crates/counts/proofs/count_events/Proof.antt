@@ -1,10 +1,8 @@
 -- The invariant: before half-cycle k the tally is that of the rules, all samples up to its first step are in range, and where there is no
 -- note nothing goes on. The measure is what is left of the half-cycles. Assumes nothing.
-use Prim.Native.Nat.{ℕ, suc, _+_, _-_, _*_, _/_, _≤_, _<_}
+use Prim.Native.Nat.{suc, _-_, _*_, _/_, _≤_, _<_}
 use mathlib.Core.Path.{_≡_, refl, sym, ap, _∙_}
-use mathlib.Core.Bool.{true, false}
 use native.Mathlib.Omega.{arith}
-use borrow.Author.Needs.{needs}
 use borrow.Author.Tests.{not-true, not-false}
 use denote.Ref.{now}
 use lib.ListN.{length}
@@ -14,11 +12,11 @@ use Rattle.checks.specs.Flags.{RangedBelow, asRead}
 use Rattle.checks.proofs.Reading.{read-halves, read-accepted}
 use Rattle.halves.specs.Steps.{stepAt}
 use Rattle.halves.proofs.Steps.{step-fits, ranged-next, step-bad}
-use Rattle.list.specs.Listing.{tallyOf}
-use Rattle.list.proofs.Notes.{NotedBelow, noted-length, noted-still, noted-more, has-note}
-use Rattle.list.proofs.Counting.{told-bad, never-taken, told-count, noted-all}
-use Rattle.list.proofs.count_events.Statement.{statement}
-use Rattle.list.proofs.count_events.Tie as tie
+use Rattle.counts.specs.Counting.{tallyOf}
+use Rattle.counts.proofs.Notes.{NotedBelow, noted-length, noted-still, noted-more, has-note}
+use Rattle.counts.proofs.Counting.{told-bad, never-taken, told-count, noted-all}
+use Rattle.counts.proofs.count_events.Statement.{statement}
+use Rattle.counts.proofs.count_events.Tie as tie
 
 abbrev Inv-loop : tie.InvT-loop
 Inv-loop s m halves samples notes₀ t₀ step₀ k₀ notes t step k =

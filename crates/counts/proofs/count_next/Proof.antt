@@ -5,10 +5,9 @@ use denote.Ref.{now}
 use Rattle.rules.specs.Halves.{halfAt}
 use Rattle.checks.specs.Flags.{asRead}
 use native.Mathlib.Omega.{arith}
-use Rattle.list.proofs.Counting.{high, counted-all, ask-step, step-sums, next-sums, half-is, ask-turn, counted-one}
-use borrow.Author.Needs.{needs}
-use Rattle.list.proofs.count_next.Statement.{statement}
-use Rattle.list.proofs.count_next.Tie as tie
+use Rattle.counts.proofs.Counting.{high, counted-all, ask-step, step-sums, next-sums, half-is, ask-turn, counted-one}
+use Rattle.counts.proofs.count_next.Statement.{statement}
+use Rattle.counts.proofs.count_next.Tie as tie
 
 -- past the test there is a half-cycle for the machine
 inside : (c : tie.Else1) → c .before .calm-from .result .k < c .before .before .args .halves

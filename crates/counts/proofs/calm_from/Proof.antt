@@ -3,8 +3,8 @@ use mathlib.Core.Path.{_≡_, sym, _∙_}
 use mathlib.Core.Bool.{Bool, true, false, cond}
 use Prim.Native.Nat.{ℕ}
 use borrow.Author.Needs.{needs}
-use Rattle.list.proofs.calm_from.Statement.{statement}
-use Rattle.list.proofs.calm_from.Tie as tie
+use Rattle.counts.proofs.calm_from.Statement.{statement}
+use Rattle.counts.proofs.calm_from.Tie as tie
 
 -- what a test chose
 first-chosen : (b c : Bool) (x y : ℕ) → b ≡ c → b ≡ true → x ≡ cond c x y
