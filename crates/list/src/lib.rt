@@ -11,7 +11,6 @@ ghost use Rattle.rules.specs.Events.{three, sixSums, typeOf};
 ghost use Rattle.rules.specs.EventList.{kindNumber, ofSag, wordsOf, eventsOf, flat};
 ghost use Rattle.rules.specs.Refusals.{settingsCheck, recordingCheck, andThen, listed, written};
 ghost use Rattle.rules.specs.declared.Taken.the-variants.{Accepted};
-ghost use Rattle.rules.specs.declared.Listed.the-variants.{Events, Turned};
 ghost use Rattle.checks.specs.Flags.{shapeCheck};
 ghost use Rattle.halves.specs.Steps.{stepAt};
 ghost use Rattle.kinds.specs.Machine.{thresholdsOf, Light, Finishable, seenNumber, finishedBy};
