@@ -25,7 +25,7 @@ use Rattle.rules.proofs.Ranges.{good}
 use Rattle.checks.specs.Flags.{allInRange, RangedBelow, asRead, shapeCheck}
 use Rattle.checks.proofs.Reading.{by-range, range-good, range-bad, ranged-all, read-halves, read-itself, read-accepted}
 use Rattle.halves.specs.Steps.{stepRun, stepAt, joinedOf, Addable}
-use Rattle.halves.proofs.Steps.{steps-all, step-addable, ranged-next, step-bad}
+use Rattle.halves.proofs.Steps.{steps-all, step-addable, ranged-step}
 use Rattle.kinds.specs.Machine.{Marked, Few}
 use Rattle.kinds.specs.declared.Thresholds.{Thresholds}
 use Rattle.kinds.proofs.Limits.{marked}
@@ -68,9 +68,8 @@ module _ {s : Settings} {xs : List ℤ} {m : Thresholds} {halves : ℕ} {t : Tal
         high = omega (arith, v .halves-are);
         tally = tally-at;
         step = e;
-        in-range = λ x. ranged;
-        before-bad = λ i l. ranged i (omega arith);
-        bad = λ x. absurd (false≢true (sym x));
+        below = λ i l. ranged i (omega arith);
+        good-is = sym (ranged-step s xs g (v .reading .shaped) stop (omega (arith, high, v .halves-are)) ranged);
         resting = λ k l u. rests k l (omega arith);
       }
 
@@ -108,9 +107,8 @@ module _ {s : Settings} {xs : List ℤ} {m : Thresholds} {halves : ℕ} {t : Tal
           high = ask-step;
           tally = f ∙ rw (v .reading .thresholds, e, tally-at) (tally-next s h stop);
           step = i;
-          in-range = λ x. rw add-one (ranged-next s xs g (v .reading .shaped) (suc stop) here ranged (rw add-one at (sym j ∙ x)));
-          before-bad = rw add-one ranged;
-          bad = λ x. step-bad s xs g (v .reading .shaped) (stop + 1) ask-step (sym j ∙ x);
+          below = rw add-one ranged;
+          good-is = j;
           resting = λ k l u. rests k l (omega arith);
         }
 

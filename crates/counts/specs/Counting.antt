@@ -12,7 +12,7 @@ use Rattle.rules.specs.declared.Settings.{Settings}
 use Rattle.rules.specs.declared.Half.{Half}
 use Rattle.rules.specs.declared.Kind.the-variants.{Sag, Interruption, Swell}
 use Rattle.checks.specs.Flags.{allInRange, RangedBelow, asRead}
-use Rattle.halves.specs.Steps.{stepAt}
+use Rattle.halves.specs.Steps.{stepRun, stepAt}
 use Rattle.quiet.specs.Quiet.{Resting, Reading}
 use Rattle.kinds.specs.Machine.{levelFrom, goesBy}
 use Rattle.kinds.specs.declared.Thresholds.{Thresholds}
@@ -56,15 +56,15 @@ pub record Counting (s : Settings) (xs : List ℤ) (m : Thresholds) (halves : �
   pub tally : t ≡ tallyOf s (halfAt s (asRead xs)) from
   pub in-range : RangedBelow xs (3 * begin s (suc from))
 
--- what it finds, of the recording as it is read: at the half-cycles passed nothing goes on, but for the last, where that is noted
+-- what it finds, of the recording as it is read: all samples before step k are in range, that step or not; at the half-cycles passed
+-- nothing goes on, but for the last, where that is noted
 pub record CountedTo (s : Settings) (xs : List ℤ) (from : ℕ) (r : Counted) : Type 0 where
   pub more : from < r .k
   pub high : r .k ≤ halvesOf s xs
   pub tally : r .tally ≡ tallyOf s (halfAt s (asRead xs)) (r .k)
   pub step : r .step ≡ stepAt s xs (r .k)
-  pub in-range : r .good ≡ true → RangedBelow xs (3 * begin s (suc (r .k)))
-  pub before-bad : RangedBelow xs (3 * begin s (r .k))
-  pub bad : r .good ≡ false → allInRange xs ≡ false
+  pub below : RangedBelow xs (3 * begin s (r .k))
+  pub good-is : r .good ≡ allInRange (stepRun s xs (r .k))
   pub resting : (k : ℕ) → from ≤ k → k + bit (r .noted) < r .k → Resting s (halfAt s (asRead xs)) k
 
 -- a note for the group of four in which half-cycle k lies

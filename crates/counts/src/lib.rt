@@ -1,7 +1,7 @@
 // How many events a recording has, or refusal 6; and notes of where something goes on, for the pass that writes.
 ghost use mathlib.Core.Path.{_≡_};
 ghost use mathlib.Core.Bool.{true, not, _&&_, cond};
-ghost use Prim.Native.Nat.{_≤_};
+ghost use Prim.Native.Nat.{_≤_, _<_};
 ghost use lib.ListN.{length};
 ghost use Rattle.rules.specs.Bounded.{bit};
 ghost use Rattle.rules.specs.Recorder.{settingsGood};
@@ -11,9 +11,8 @@ ghost use Rattle.rules.specs.Refusals.{recordingCheck, byCheck};
 ghost use Rattle.rules.specs.declared.Taken.the-variants.{Accepted};
 ghost use Rattle.rules.specs.declared.Listed.the-variants.{Events, Turned};
 ghost use Rattle.checks.specs.Flags.{shapeCheck};
-ghost use Rattle.halves.specs.Steps.{stepAt};
 ghost use Rattle.kinds.specs.Machine.{thresholdsOf, Marked, Few};
-ghost use Rattle.quiet.specs.Quiet.{quietTill, Reading};
+ghost use Rattle.quiet.specs.Quiet.{quietTill, Reading, StoppedAt};
 ghost use Rattle.counts.specs.Counting.{tallied, goingOn, Counting, CountedTo, notedAt, Noted};
 use halves::bad_sample;
 use halves::joined;
@@ -37,8 +36,8 @@ pub struct Tally {
     pub n: u64,
 }
 
-// How far the counting pass has come: the tally before half-cycle k and that one's first step; whether all samples so far are in range;
-// and whether something goes on at half-cycle k - 1.
+// How far the counting pass has come: the tally before half-cycle k and that one's first step, whether that step is in range, and
+// whether the machine took half-cycle k - 1, so that it is to be noted.
 pub struct Counted {
     pub tally: Tally,
     pub step: Half,
@@ -86,7 +85,7 @@ fn is_open(t: Tally) -> bool
     t.sag | t.interruption | t.swell
 }
 
-// The first half-cycle from `from` on for the machine: where nothing is going on the quiet ones are passed over.
+// The first half-cycle from `from` on for the machine, and its two steps: where nothing is going on the quiet ones are passed over.
 fn calm_from(
     s: Settings,
     m: Thresholds,
@@ -96,13 +95,14 @@ fn calm_from(
     first: Half,
     from: u64,
 ) -> Stretch
-    requires { ⌜ Reading s (now samples) m from halves first ⌝ }
-    ensures { λ r. ⌜ (r .k ≡ cond (goingOn t) from (quietTill s (now (samples .entry)) from halves)) × (r .step ≡ stepAt s (now (samples .entry)) (r .k)) ⌝ }
+    requires { ⌜ Reading s (now samples) m from halves first × (from < halves) ⌝ }
+    ensures { λ r. ⌜ StoppedAt s (now (samples .entry)) halves (cond (goingOn t) from (quietTill s (now (samples .entry)) from halves)) r ⌝ }
 {
     if is_open(t) {
         return Stretch {
             k: from,
             step: first,
+            next: step_at(s, samples, from + 1),
         };
     }
     pass_quiet(s, m, samples, from, halves, first)
@@ -123,6 +123,7 @@ fn count_next(
 {
     let calm = calm_from(s, m, halves, samples, t, first, from);
     let step = calm.step;
+    let next = calm.next;
     let k = calm.k;
     if k == halves {
         return Counted {
@@ -133,7 +134,6 @@ fn count_next(
             noted: false,
         };
     }
-    let next = step_at(s, samples, k + 1);
     Counted {
         tally: count_turn(m, t, joined(step, next)),
         step: next,

@@ -206,6 +206,12 @@ module _ (s : Settings) (xs : List ℤ) (good : Good s) (shaped : shapeCheck s x
         rw f at (rw (part-at xs (begin s j) (s .n / 2) fits d u) at (all-ranged w e d (omega (arith, part-length xs (begin s j) (s .n / 2) fits)))))
         (lower i (3 * begin s j))
 
+    pub ranged-step : RangedBelow xs (3 * begin s (suc j)) → allInRange w ≡ true
+    ranged-step h =
+        ranged-all w (length w) (omega arith)
+        (λ i l. let u : i < 3 * (s .n / 2) = omega (arith, part-length xs (begin s j) (s .n / 2) fits) in
+        rw (part-at xs (begin s j) (s .n / 2) fits i u) (h (3 * begin s j + i) (omega arith)))
+
     pub step-bad : allInRange w ≡ false → allInRange xs ≡ false
     step-bad e = ⊎-elim (λ a. absurd (not-both (allInRange w) (ranged-all w (length w) (omega arith) (whole a)) e)) (λ a. a) (cases (allInRange xs))
       where

@@ -1,5 +1,5 @@
 -- Quiet half-cycles, in the words of the rules and as the code tests them; and half-cycles at which nothing goes on.
-use Prim.Native.Nat.{ℕ, _-_, _*_, _≤_}
+use Prim.Native.Nat.{ℕ, _+_, _-_, _*_, _≤_, _<_}
 use mathlib.Core.Path.{_≡_}
 use mathlib.Core.Bool.{Bool, true, false, not, _&&_}
 use mathlib.Core.List.{List}
@@ -19,6 +19,7 @@ use Rattle.checks.specs.Flags.{shapeCheck, asRead}
 use Rattle.halves.specs.Steps.{stepAt}
 use Rattle.kinds.specs.Machine.{thresholdsOf}
 use Rattle.kinds.specs.declared.Thresholds.{Thresholds}
+use Rattle.quiet.specs.declared.Stretch.{Stretch}
 
 -- known, and an event of no kind begins there
 unfoldable pub isQuiet : Settings → Half → Bool
@@ -47,3 +48,9 @@ pub record Reading (s : Settings) (xs : List ℤ) (m : Thresholds) (from to : �
   pub ordered : from ≤ to
   pub high : to ≤ halvesOf s xs
   pub step : first ≡ stepAt s xs from
+
+-- it stands before half-cycle `stop` then, with that one's two steps, or one where `to` is reached
+pub record StoppedAt (s : Settings) (xs : List ℤ) (to stop : ℕ) (r : Stretch) : Type 0 where
+  pub k-is : r .k ≡ stop
+  pub step : r .step ≡ stepAt s xs (r .k)
+  pub next : r .k < to → r .next ≡ stepAt s xs (r .k + 1)

@@ -20,7 +20,7 @@ use Rattle.rules.proofs.Ranges.{good}
 use Rattle.checks.specs.Flags.{allInRange, RangedBelow, asRead}
 use Rattle.checks.proofs.Reading.{read-halves, read-taken, read-accepted}
 use Rattle.halves.specs.Steps.{stepAt, stepRun, joinedOf, Addable}
-use Rattle.halves.proofs.Steps.{step-addable, ranged-next, step-bad}
+use Rattle.halves.proofs.Steps.{step-addable, ranged-step}
 use Rattle.kinds.specs.declared.Thresholds.{Thresholds}
 use Rattle.quiet.specs.Quiet.{quietTill, Resting}
 use Rattle.quiet.proofs.Stretches.{half-here, stop-low, stop-high, calm-rests, calm-ranged}
@@ -106,9 +106,8 @@ module _ {s : Settings} {xs : List ℤ} {m : Thresholds} {halves : ℕ} {p : Sur
           state = state-at;
           cells-are = cells-at;
           step = e;
-          in-range = λ x. ranged;
-          before-bad = λ i l. ranged i (omega arith);
-          bad = λ x. absurd (false≢true (sym x));
+          below = λ i l. ranged i (omega arith);
+          good-is = sym (ranged-step s xs g (v .reading .shaped) stop (omega (arith, high, v .halves-are)) ranged);
         }
 
     -- the machine takes half-cycle `stop`
@@ -129,7 +128,6 @@ module _ {s : Settings} {xs : List ℤ} {m : Thresholds} {halves : ℕ} {p : Sur
             state = e ∙ rw add-one (turn-made s (asRead xs) (v .reading .good-settings) taken m half q stop cs (v .reading .thresholds) is-half in-reading state-at cells-at);
             cells-are = f ∙ rw add-one (turn-cells s (asRead xs) (v .reading .good-settings) taken m half q stop cs (v .reading .thresholds) is-half in-reading state-at cells-at);
             step = i;
-            in-range = λ x. rw add-one (ranged-next s xs g (v .reading .shaped) (suc stop) (here inside) ranged (rw add-one at (sym j ∙ x)));
-            before-bad = rw add-one ranged;
-            bad = λ x. step-bad s xs g (v .reading .shaped) (stop + 1) (ask-step inside) (sym j ∙ x);
+            below = rw add-one ranged;
+            good-is = j;
           }

@@ -37,10 +37,6 @@ pub record Reached (s : Settings) (xs : List ℤ) (k : ℕ) (p : Survey) (step :
   pub step-is : step ≡ stepAt s xs k
   pub in-range : RangedBelow xs (3 * begin s (suc k))
 
--- where no bad sample was met
-pub on-reached : (s : Settings) (xs : List ℤ) (from : ℕ) (r : Surveyed) (cs : List ℕ) → SurveyedTo s xs from r cs → r .good ≡ true → Reached s xs (r .k) (r .survey) (r .step) cs
-on-reached s xs from r cs t e = record { state = t .state; cells-are = t .cells-are; step-is = t .step; in-range = t .in-range e }
-
 module _ (s : Settings) (xs : List ℤ) (good-settings : settingsGood s ≡ true) (shaped : shapeCheck s xs ≡ Accepted) where
   -- ---- the start
 
@@ -54,7 +50,21 @@ module _ (s : Settings) (xs : List ℤ) (good-settings : settingsGood s ≡ true
         in-range = ranged-next s xs (good s good-settings) shaped 0 (omega arith) (λ j l. absurd (omega arith)) (sym i ∙ t);
       }
 
+  -- where no bad sample was met
+  pub on-reached : (from : ℕ) (r : Surveyed) (cs : List ℕ) → SurveyedTo s xs from r cs → r .good ≡ true → Reached s xs (r .k) (r .survey) (r .step) cs
+  on-reached from r cs t e =
+      record {
+        state = t .state;
+        cells-are = t .cells-are;
+        step-is = t .step;
+        in-range = ranged-next s xs (good s good-settings) shaped (r .k) (t .high) (t .below) (sym (t .good-is) ∙ e);
+      }
+
   -- ---- a bad sample
+
+  -- where one was
+  pub on-bad : (from : ℕ) (r : Surveyed) (cs : List ℕ) → SurveyedTo s xs from r cs → r .good ≡ false → allInRange xs ≡ false
+  on-bad from r cs t e = step-bad s xs (good s good-settings) shaped (r .k) (t .high) (sym (t .good-is) ∙ e)
 
   -- one in step 0
   pub first-bad-step : (b : Bool) → b ≡ allInRange (stepRun s xs 0) → b ≡ false → allInRange xs ≡ false
@@ -65,7 +75,7 @@ module _ (s : Settings) (xs : List ℤ) (good-settings : settingsGood s ≡ true
 
   -- where it is looked for
   pub ask-bad : {from : ℕ} {r : Surveyed} {cs : List ℕ} → SurveyedTo s xs from r cs → (3 * begin s (r .k) ≤ length xs) × RangedBelow xs (3 * begin s (r .k))
-  ask-bad {r = r} t = (omega (arith, step-fits s xs (good s good-settings) shaped (r .k) (t .high)), t .before-bad)
+  ask-bad {r = r} t = (omega (arith, step-fits s xs (good s good-settings) shaped (r .k) (t .high)), t .below)
 
   pub turned : allInRange xs ≡ false → (q : Refusal) (r : Handed) → q ≡ Sample (firstBad xs) → r ≡ turnedAway s q → r ≡ tabled s xs
   unfolding tabled

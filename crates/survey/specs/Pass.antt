@@ -20,7 +20,7 @@ use Rattle.rules.specs.declared.Refusal.{Refusal}
 use Rattle.rules.specs.declared.Site.{Site as Handed}
 use Rattle.rules.specs.declared.Taken.the-variants.{Refused}
 use Rattle.checks.specs.Flags.{allInRange, RangedBelow, asRead}
-use Rattle.halves.specs.Steps.{stepAt}
+use Rattle.halves.specs.Steps.{stepRun, stepAt}
 use Rattle.kinds.specs.Machine.{levelFrom, goesBy, stepBy, closed, opens, Marked, Few, Light}
 use Rattle.quiet.specs.Quiet.{Reading}
 use Rattle.kinds.specs.declared.Thresholds.{Thresholds}
@@ -223,16 +223,15 @@ pub record Surveying (s : Settings) (xs : List ℤ) (m : Thresholds) (halves : �
   pub cells-are : cs ≡ cellsAt s (halfAt s (asRead xs)) (halvesOf s (asRead xs)) from
   pub in-range : RangedBelow xs (3 * begin s (suc from))
 
--- what it finds, of the recording as it is read
+-- what it finds, of the recording as it is read: all samples before step k are in range, that step or not
 pub record SurveyedTo (s : Settings) (xs : List ℤ) (from : ℕ) (r : Surveyed) (cs : List ℕ) : Type 0 where
   pub more : from < r .k
   pub high : r .k ≤ halvesOf s xs
   pub state : r .survey ≡ surveyAt s (halfAt s (asRead xs)) (halvesOf s (asRead xs)) (r .k)
   pub cells-are : cs ≡ cellsAt s (halfAt s (asRead xs)) (halvesOf s (asRead xs)) (r .k)
   pub step : r .step ≡ stepAt s xs (r .k)
-  pub in-range : r .good ≡ true → RangedBelow xs (3 * begin s (suc (r .k)))
-  pub before-bad : RangedBelow xs (3 * begin s (r .k))
-  pub bad : r .good ≡ false → allInRange xs ≡ false
+  pub below : RangedBelow xs (3 * begin s (r .k))
+  pub good-is : r .good ≡ allInRange (stepRun s xs (r .k))
 
 -- ---- the whole recording
 

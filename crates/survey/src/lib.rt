@@ -1,15 +1,14 @@
 // The survey of a recording: one pass over its half-cycles that counts all that a site table holds.
 ghost use mathlib.Core.Path.{_≡_};
 ghost use mathlib.Core.Bool.{true, cond};
-ghost use Prim.Native.Nat.{_+_, _≤_};
+ghost use Prim.Native.Nat.{_+_, _≤_, _<_};
 ghost use Rattle.rules.specs.Bounded.{bit};
 ghost use Rattle.rules.specs.Recorder.{settingsGood};
 ghost use Rattle.rules.specs.Events.{three};
 ghost use Rattle.rules.specs.Site.{empty};
 ghost use Rattle.rules.specs.declared.Taken.the-variants.{Accepted};
 ghost use Rattle.checks.specs.Flags.{shapeCheck};
-ghost use Rattle.halves.specs.Steps.{stepAt};
-ghost use Rattle.quiet.specs.Quiet.{quietTill, Reading};
+ghost use Rattle.quiet.specs.Quiet.{quietTill, Reading, StoppedAt};
 ghost use Rattle.kinds.specs.Machine.{Light};
 ghost use Rattle.survey.specs.Pass.{trackedBy, classedBy, startedBy, landedBy, cellsBy, Placeable, Landable, Turnable, surveyedBy, cellsTurned, goingOn, passedOver, Surveying, SurveyedTo, startSurvey, turnedAway, tabled};
 use checks::count_halves;
@@ -65,6 +64,7 @@ pub struct Landed {
     pub shortfall: u64,
 }
 
+// What the pass holds before a half-cycle: what goes on, and what is counted so far.
 pub struct Survey {
     pub track: Track,
     pub classes: Classes,
@@ -72,7 +72,7 @@ pub struct Survey {
     pub landed: Landed,
 }
 
-// How far the survey has come: that before half-cycle k, that one's first step, and whether all samples so far are in range.
+// How far the pass has come: the survey before half-cycle k, that one's first step, and whether that step is in range.
 pub struct Surveyed {
     pub survey: Survey,
     pub step: Half,
@@ -273,7 +273,7 @@ fn pass_over(p: Survey, more: u64) -> Survey
     }
 }
 
-// The first half-cycle from `from` on for the machine: where nothing is going on the quiet ones are passed over.
+// The first half-cycle from `from` on for the machine, and its two steps: where nothing is going on the quiet ones are passed over.
 fn calm_from(
     s: Settings,
     m: Thresholds,
@@ -283,13 +283,14 @@ fn calm_from(
     first: Half,
     from: u64,
 ) -> Stretch
-    requires { ⌜ Reading s (now samples) m from halves first ⌝ }
-    ensures { λ r. ⌜ (r .k ≡ cond (goingOn t) from (quietTill s (now (samples .entry)) from halves)) × (r .step ≡ stepAt s (now (samples .entry)) (r .k)) ⌝ }
+    requires { ⌜ Reading s (now samples) m from halves first × (from < halves) ⌝ }
+    ensures { λ r. ⌜ StoppedAt s (now (samples .entry)) halves (cond (goingOn t) from (quietTill s (now (samples .entry)) from halves)) r ⌝ }
 {
     if is_open(t) {
         return Stretch {
             k: from,
             step: first,
+            next: step_at(s, samples, from + 1),
         };
     }
     pass_quiet(s, m, samples, from, halves, first)
@@ -311,6 +312,7 @@ fn survey_next(
 {
     let calm = calm_from(s, m, halves, samples, p.track, first, from);
     let step = calm.step;
+    let next = calm.next;
     let k = calm.k;
     let survey = pass_over(p, k - from);
     if k == halves {
@@ -321,7 +323,6 @@ fn survey_next(
             good: true,
         };
     }
-    let next = step_at(s, samples, k + 1);
     Surveyed {
         survey: survey_turn(s, m, joined(step, next), survey, k, cells),
         step: next,

@@ -89,14 +89,15 @@ bad-sample-requires-2 : tie.Need-bad-sample-requires-2 Inv-loop μ-loop
 bad-sample-requires-2 c κs =
     let r = c .before .before in
     let s = start r in
-    (omega (arith, step-fits _ _ (good _ (s .pre .0)) (s .pre .1) _ (r .count-next .ensures .high)), r .count-next .ensures .before-bad)
+    (omega (arith, step-fits _ _ (good _ (s .pre .0)) (s .pre .1) _ (r .count-next .ensures .high)), r .count-next .ensures .below)
 
 returns-2 : tie.Need-returns-2 Inv-loop μ-loop
 returns-2 c =
     let r = c .before .before .before in
     let s = start r in
     let g = good _ (s .pre .0) in
-    let bad = r .count-next .ensures .bad (not-true _ (c .before .if2 .taken)) in
+    let e = r .count-next .ensures in
+    let bad = step-bad _ _ g (s .pre .1) _ (e .high) (sym (e .good-is) ∙ not-true _ (c .before .if2 .taken)) in
     (told-bad _ _ g (s .pre .1) bad _ _ (c .bad-sample2 .ensures), λ e. absurd (never-taken _ _ g (s .pre .1) bad e))
 
 sub-note : tie.Need-sub-note Inv-loop μ-loop
@@ -125,7 +126,7 @@ loop-again c =
       omega (arith, e .high, s .pre .2),
       e .tally,
       e .step,
-      e .in-range (not-false _ (noted .before .before .before .if2 .left)),
+      ranged-next _ _ (good _ (s .pre .0)) (s .pre .1) _ (e .high) (e .below) (sym (e .good-is) ∙ not-false _ (noted .before .before .before .if2 .left)),
       rw (noted .note .ensures) (λ j u. noted-more _ (k - 1) _ fits _ _ (l .k) (l .inv .4) (λ i x y. e .resting i x (omega (arith, y, up))) j (omega (arith, u, up))),
       ap length (noted .note .ensures) ∙ noted-length _ (k - 1) _ fits ∙ l .inv .5,
     )

@@ -88,11 +88,14 @@ is-quiet-requires c κs = rw (half-is c) (few-here (start (c .before .before) .p
 returns : tie.Need-returns Inv-loop μ-loop
 returns c =
     let t = c .before .before .before .before in
-    let s = start t in (
-      sym (first-stop (quiet (s .args .s) (now (s .args .samples))) (at t) (s .args .to) (below t) (sym (told (c .before)) ∙ not-true _ (c .if1 .taken)))
-          ∙ t .before .loop .inv .2,
-      t .before .loop .inv .1,
-    )
+    let s = start t in
+    record {
+      k-is =
+          sym (first-stop (quiet (s .args .s) (now (s .args .samples))) (at t) (s .args .to) (below t) (sym (told (c .before)) ∙ not-true _ (c .if1 .taken)))
+          ∙ t .before .loop .inv .2;
+      step = t .before .loop .inv .1;
+      next = λ l. c .before .before .before .step-at .ensures;
+    }
 
 add-k : tie.Need-add-k Inv-loop μ-loop
 add-k c = omega (arith, below (c .before .before .before .before))
@@ -114,11 +117,12 @@ returns-2 : tie.Need-returns-2 Inv-loop μ-loop
 returns-2 c =
     let l = c .before .loop in
     let s = c .before .before in
-    let e : l .k ≡ s .args .to = omega (arith, c .loop-test .left) in (
-      sym (first-end (quiet (s .args .s) (now (s .args .samples))) (l .k) (s .args .to) e)
-          ∙ l .inv .2,
-      l .inv .1,
-    )
+    let e : l .k ≡ s .args .to = omega (arith, c .loop-test .left) in
+    record {
+      k-is = sym (first-end (quiet (s .args .s) (now (s .args .samples))) (l .k) (s .args .to) e) ∙ l .inv .2;
+      step = l .inv .1;
+      next = λ u. absurd (omega (arith, e, u));
+    }
 
 pub pass-quiet-spec : {M : Type 1} → statement M
 pass-quiet-spec =

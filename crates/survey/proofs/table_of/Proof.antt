@@ -7,7 +7,7 @@ use borrow.Author.Needs.{needs}
 use borrow.Author.Tests.{not-true, not-false}
 use denote.Ref.{now}
 use Rattle.rules.specs.Halves.{halvesOf}
-use Rattle.survey.proofs.Tables.{Reached, on-reached, start-reached, first-bad-step, ask-first, ask-bad, turned, ask-next, ask-end, end-made}
+use Rattle.survey.proofs.Tables.{Reached, on-reached, on-bad, start-reached, first-bad-step, ask-first, ask-bad, turned, ask-next, ask-end, end-made}
 use Rattle.survey.proofs.table_of.Statement.{statement}
 use Rattle.survey.proofs.table_of.Tie as tie
 
@@ -89,7 +89,7 @@ returns-2 : tie.Need-returns-2 Inv-loop μ-loop
 returns-2 c =
     let r = c .before .before .before .before in
     let v = start (r .before .before .before) .pre in
-    turned _ _ (v .0) (v .1) (r .survey-next .ensures .bad (not-true _ (c .before .before .if2 .taken))) _ _ (c .before .bad-sample2 .ensures) (c .turned-away2 .ensures)
+    turned _ _ (v .0) (v .1) (on-bad _ _ (v .0) (v .1) _ _ _ (r .survey-next .ensures) (not-true _ (c .before .before .if2 .taken))) _ _ (c .before .bad-sample2 .ensures) (c .turned-away2 .ensures)
 
 loop-less : tie.Need-loop-less Inv-loop μ-loop
 loop-less c =
@@ -100,7 +100,8 @@ loop-again : tie.Need-loop-again Inv-loop μ-loop
 loop-again c =
     let r = c .before .before .before in
     let e = r .survey-next .ensures in
-    (omega (arith, e .high, counted (r .before .before .before)), on-reached _ _ _ _ _ e (not-false _ (c .before .if2 .left)))
+    let v = start (r .before .before .before) .pre in
+    (omega (arith, e .high, counted (r .before .before .before)), on-reached _ _ (v .0) (v .1) _ _ _ e (not-false _ (c .before .if2 .left)))
 
 land-requires : tie.Need-land-requires Inv-loop μ-loop
 land-requires c κs =
