@@ -1,4 +1,4 @@
--- A recording as a pass reads it, whatever its samples are: it has the same length, its odd samples are missing, and so it is accepted
+-- A recording as a pass reads it, whatever its samples are: it has the same length, what lies outside the limits is missing, and so it is accepted
 -- wherever the length is; where every sample is in range it is the recording itself. Assumes nothing.
 use Prim.Native.Nat.{ℕ, zero, suc, _/_, _%_, _≤_}
 use mathlib.Core.Path.{_≡_, refl, sym, ap, _∙_}
@@ -16,12 +16,11 @@ use Rattle.rules.specs.Refusals.{recordingCheck, mostHalfCycles, andThen}
 use Rattle.rules.specs.Demands.{AcceptedRecording}
 use Rattle.rules.specs.declared.Settings.{Settings}
 use Rattle.rules.specs.declared.Refusal.the-variants.{Uneven, Short, Ragged, Long, Sample}
-use Rattle.rules.specs.declared.Taken.{Taken}
 use Rattle.rules.specs.declared.Taken.the-variants.{Accepted, Refused}
 use Rattle.rules.proofs.Booleans.{cases}
 use Rattle.rules.proofs.Bounded.{all-at, all-true}
 use Rattle.rules.proofs.Samples.{accepted-recording, both-accept}
-use Rattle.checks.specs.Flags.{shapeCheck, rangeCheck, odd, allInRange, RangedBelow, readAs, asRead}
+use Rattle.checks.specs.Flags.{shapeCheck, rangeCheck, outside, allInRange, RangedBelow, readAs, asRead}
 use Rattle.checks.proofs.Tests.{bad-is}
 
 -- ---- the two parts of the checks
@@ -64,36 +63,36 @@ all-ranged xs e i l = all-at (λ i. inRange (getD xs i (pos 0))) (length xs) e i
 
 -- ---- one sample
 
-pub even-low : (x : ℤ) → odd x ≡ false → natAbs x ≤ 100000
-even-low x e = leb-true (natAbs x) 100000 (not-false _ e)
+pub within-low : (x : ℤ) → outside x ≡ false → natAbs x ≤ 100000
+within-low x e = leb-true (natAbs x) 100000 (not-false _ e)
 
--- what is not odd is not missing, and in range
-even-there : (x : ℤ) → odd x ≡ false → missing x ≡ false
-even-there (pos n) e = refl
-even-there (negsuc n) e = borrow.Author.Tests.ne-eqb n 2147483647 (λ z. omega (arith, even-low (negsuc n) e))
+-- what lies within the limits is not missing, and in range
+within-there : (x : ℤ) → outside x ≡ false → missing x ≡ false
+within-there (pos n) e = refl
+within-there (negsuc n) e = borrow.Author.Tests.ne-eqb n 2147483647 (λ z. omega (arith, within-low (negsuc n) e))
 
-pub even-ranged : (x : ℤ) → odd x ≡ false → inRange x ≡ true
-even-ranged x e = rw (even-there x e, le-leb (natAbs x) 100000 (even-low x e))
+pub within-ranged : (x : ℤ) → outside x ≡ false → inRange x ≡ true
+within-ranged x e = rw (within-there x e, le-leb (natAbs x) 100000 (within-low x e))
 
--- a sample is read as missing exactly where it is odd
-pub missing-read : (x : ℤ) → missing (readAs x) ≡ odd x
-missing-read x = ⊎-elim (λ e. rw e) (λ e. rw e (even-there x e)) (cases (odd x))
+-- a sample is read as missing exactly where it lies outside the limits
+pub missing-read : (x : ℤ) → missing (readAs x) ≡ outside x
+missing-read x = ⊎-elim (λ e. rw e) (λ e. rw e (within-there x e)) (cases (outside x))
 
-pub even-read : (x : ℤ) → odd x ≡ false → readAs x ≡ x
-even-read x e = rw e
+pub within-read : (x : ℤ) → outside x ≡ false → readAs x ≡ x
+within-read x e = rw e
 
 read-ranged : (x : ℤ) → inRange (readAs x) ≡ true
-read-ranged x = ⊎-elim (λ e. rw e) (λ e. rw e (even-ranged x e)) (cases (odd x))
+read-ranged x = ⊎-elim (λ e. rw e) (λ e. rw e (within-ranged x e)) (cases (outside x))
 
 -- a sample in range is read as it is
-missing-is : (x : ℤ) → missing x ≡ true → x ≡ negsuc 2147483647
-missing-is (pos n) e = absurd (mathlib.Core.Bool.false≢true e)
-missing-is (negsuc n) e = ap negsuc (eqb-true n 2147483647 e)
+missing-only : (x : ℤ) → missing x ≡ true → x ≡ negsuc 2147483647
+missing-only (pos n) e = absurd (mathlib.Core.Bool.false≢true e)
+missing-only (negsuc n) e = ap negsuc (eqb-true n 2147483647 e)
 
 read-same : (x : ℤ) → inRange x ≡ true → readAs x ≡ x
-read-same x h = ⊎-elim (λ e. rw (missing-is x e)) (λ e. even-read x (low e)) (cases (missing x))
+read-same x h = ⊎-elim (λ e. rw (missing-only x e)) (λ e. within-read x (low e)) (cases (missing x))
   where
-    low : missing x ≡ false → odd x ≡ false
+    low : missing x ≡ false → outside x ≡ false
     low e = rw (rw e at h)
 
 -- ---- the whole recording

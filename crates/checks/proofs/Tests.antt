@@ -1,5 +1,4 @@
--- The tests of one signed sample, what the flags over a whole run say of its first bad one, and the two parts of the checks. Assumes
--- nothing.
+-- The tests of one signed sample, and what the flags over a whole run say of its first bad one. Assumes nothing.
 use Prim.Native.Nat.{ℕ, zero, suc, _-_, _≤_}
 use mathlib.Core.Path.{_≡_, refl, sym, ap, _∙_}
 use mathlib.Core.Bool.{Bool, true, false, not, _||_}
@@ -19,7 +18,7 @@ use Rattle.rules.specs.Recorder.{missing, inRange, firstBad}
 use Rattle.rules.specs.Bounded.{firstNot}
 use Rattle.rules.proofs.Runs.{first-go}
 use Rattle.rules.proofs.Samples.{first-found}
-use Rattle.checks.specs.Flags.{odd, tooLow, tooHigh, allInRange, RangedBelow}
+use Rattle.checks.specs.Flags.{outside, tooLow, tooHigh, allInRange, RangedBelow}
 
 -- ---- the test against MISSING, whose bits are 2 ^ 31
 
@@ -51,13 +50,13 @@ high-is (negsuc n) = refl
 at-most : (n m : ℕ) → not (ltb m n) ≡ leb n m
 at-most n m = ⊎-elim (λ e. ap not e ∙ sym (lt-leb n m (ltb-true m n e))) (λ e. ap not e ∙ sym (le-leb n m (ltb-false m n e))) (cases (ltb m n))
 
-pub odd-is : (x : ℤ) → tooLow x || tooHigh x ≡ odd x
-odd-is (pos n) = twice (ltb 100000 n) ∙ ap not (at-most n 100000)
+pub outside-is : (x : ℤ) → tooLow x || tooHigh x ≡ outside x
+outside-is (pos n) = twice (ltb 100000 n) ∙ ap not (at-most n 100000)
   where
     twice : (b : Bool) → b ≡ not (not b)
     twice true = refl
     twice false = refl
-odd-is (negsuc n) = or-false (ltb 99999 n) ∙ ap not (at-most n 99999 ∙ sym (leb·suc-suc n 99999))
+outside-is (negsuc n) = or-false (ltb 99999 n) ∙ ap not (at-most n 99999 ∙ sym (leb·suc-suc n 99999))
   where
     or-false : (b : Bool) → b || false ≡ not (not b)
     or-false true = refl

@@ -30,8 +30,8 @@ rangeCheck xs = cond (ltb (firstBad xs) (length xs)) (Refused (Sample (firstBad 
 -- ---- flags
 
 -- a sample outside the limits is missing, or bad
-abbrev pub odd : ℤ → Bool
-odd x = not (leb (natAbs x) 100000)
+abbrev pub outside : ℤ → Bool
+outside x = not (leb (natAbs x) 100000)
 
 -- it lies below -100,000, or above 100,000
 abbrev pub tooLow : ℤ → Bool
@@ -50,10 +50,10 @@ allInRange xs = all (λ i. inRange (getD xs i (pos 0))) (length xs)
 abbrev pub RangedBelow : List ℤ → ℕ → Type 0
 RangedBelow xs b = (i : ℕ) → i < b → inRange (getD xs i (pos 0)) ≡ true
 
--- ---- a recording as a pass reads it: whatever is odd counts as missing, till refusal 6 is told
+-- ---- a recording as a pass reads it: whatever lies outside the limits counts as missing, till refusal 6 is told
 
 abbrev pub readAs : ℤ → ℤ
-readAs x = cond (odd x) (negsuc 2147483647) x
+readAs x = cond (outside x) (negsuc 2147483647) x
 
 unfoldable pub asRead : List ℤ → List ℤ
 asRead [] = []

@@ -85,14 +85,14 @@ fn is_missing(x: i32) -> bool
 }
 
 // Whether a sample lies below the limits: it is missing, or bad.
-pub fn is_low(x: i32) -> bool
+pub fn is_too_low(x: i32) -> bool
     ensures { λ r. ⌜ r ≡ tooLow x ⌝ }
 {
     x < -LIMIT
 }
 
 // Whether a sample lies above the limits: it is bad.
-pub fn is_high(x: i32) -> bool
+pub fn is_too_high(x: i32) -> bool
     ensures { λ r. ⌜ r ≡ tooHigh x ⌝ }
 {
     LIMIT < x
@@ -102,7 +102,7 @@ pub fn is_high(x: i32) -> bool
 fn is_in_range(x: i32) -> bool
     ensures { λ r. ⌜ r ≡ inRange x ⌝ }
 {
-    is_missing(x) | !(is_low(x) | is_high(x))
+    is_missing(x) | !(is_too_low(x) | is_too_high(x))
 }
 
 // Whether every sample is in range: one pass of flags, with no branch.

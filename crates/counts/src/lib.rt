@@ -153,7 +153,8 @@ fn note(notes: &mut [bool; 25001], k: u64, noted: bool)
 }
 
 // How many events a recording of good length has, or refusal 6, which is told as soon as a bad sample is met. Each group of four
-// half-cycles in which something goes on is noted, and so is that of half-cycle H, which ends what is still going on.
+// half-cycles in which something goes on is noted, and so is that of half-cycle H, which ends what is still going on. How many notes
+// there are is asked for, since the prover does not tell the length of a lent array.
 pub fn count_events(
     s: Settings,
     m: Thresholds,

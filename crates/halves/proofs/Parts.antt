@@ -12,9 +12,9 @@ use Rattle.rules.specs.Halves.{samplesOf, square, begin, halvesOf, anyMissing}
 use Rattle.rules.specs.declared.Settings.{Settings}
 use Rattle.rules.specs.Demands.{Good, AcceptedRecording}
 use Rattle.rules.proofs.Samples.{any-at, sum-le, square-low, window-fits, sample-low}
-use Rattle.checks.specs.Flags.{odd}
-use Rattle.checks.proofs.Reading.{even-low}
-use Rattle.halves.specs.Steps.{part, window, oddIn, squaresIn, Low}
+use Rattle.checks.specs.Flags.{outside}
+use Rattle.checks.proofs.Reading.{within-low}
+use Rattle.halves.specs.Steps.{part, window, outsideIn, squaresIn, Low}
 
 module _ (xs : List ℤ) (b m : ℕ) (fits : 3 * b + 3 * m ≤ length xs) where
   pub part-length : length (part xs b m) ≡ 3 * m
@@ -31,10 +31,10 @@ module _ (xs : List ℤ) (b m : ℕ) (fits : 3 * b + 3 * m ≤ length xs) where
       let e : 3 * b + (3 * i + c) ≡ 3 * (b + i) + c = omega arith in
       part-at (3 * i + c) (omega arith) ∙ ap (λ (j : ℕ). getD xs j (pos 0)) e
 
--- a run with no odd sample is low, and so are its sums
-pub low-run : (w : List ℤ) → oddIn w ≡ false → Low w
-unfolding oddIn
-low-run w m i l = even-low (getD w i (pos 0)) (any-at (λ i. odd (getD w i (pos 0))) (length w) m i l)
+-- a run within the limits is low, and so are its sums
+pub low-run : (w : List ℤ) → outsideIn w ≡ false → Low w
+unfolding outsideIn
+low-run w m i l = within-low (getD w i (pos 0)) (any-at (λ i. outside (getD w i (pos 0))) (length w) m i l)
 
 pub squares-in-low : (w : List ℤ) → Low w → (c n : ℕ) → c < 3 → n ≤ samplesOf w → squaresIn w c n ≤ n * 10000000000
 squares-in-low w h c n l m =

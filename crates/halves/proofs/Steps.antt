@@ -16,7 +16,6 @@ use Rattle.rules.specs.Recorder.{sampleAt, missing, inRange}
 use Rattle.rules.specs.Halves.{samplesOf, square, begin, anyMissing, squares, sumsAt, halvesOf, halfAt, known}
 use Rattle.rules.specs.declared.Settings.{Settings}
 use Rattle.rules.specs.declared.Sums.{Sums}
-use Rattle.rules.specs.declared.Half.{Half}
 use Rattle.rules.specs.declared.Half.the-variants.{Unknown, Known}
 use Rattle.rules.specs.declared.Taken.the-variants.{Accepted}
 use Rattle.rules.specs.Demands.{Good, AcceptedRecording}
@@ -24,9 +23,9 @@ use Rattle.rules.proofs.Booleans.{cases, not-both}
 use Rattle.rules.proofs.Bounded.{any-same, sum-same, all-true}
 use Rattle.rules.proofs.Choices.{lower}
 use Rattle.rules.proofs.Samples.{any-at, window-fits}
-use Rattle.checks.specs.Flags.{shapeCheck, odd, allInRange, RangedBelow, asRead, readAs}
-use Rattle.checks.proofs.Reading.{all-ranged, ranged-all, even-ranged, even-read, missing-read, read-length, read-at, read-halves, read-accepted}
-use Rattle.halves.specs.Steps.{stepRun, oddIn, squaresIn, sumsIn, stepIn, stepAt, joinedOf, Addable}
+use Rattle.checks.specs.Flags.{shapeCheck, outside, allInRange, RangedBelow, asRead, readAs}
+use Rattle.checks.proofs.Reading.{all-ranged, ranged-all, within-ranged, within-read, missing-read, read-length, read-at, read-halves, read-accepted}
+use Rattle.halves.specs.Steps.{stepRun, outsideIn, squaresIn, sumsIn, stepIn, stepAt, joinedOf, Addable}
 use Rattle.halves.proofs.Parts.{part-length, part-at, part-samples, sample-is, squares-in-low, low-run}
 
 -- ---- sums and flags in two parts
@@ -108,12 +107,12 @@ module _ (s : Settings) (g : Good s) (ys : List ℤ) (k : ℕ) where
 
 -- ---- what the code's pass over a step finds is that
 
--- a run with no odd sample is in range
-pub even-run : (w : List ℤ) → oddIn w ≡ false → allInRange w ≡ true
-unfolding oddIn allInRange
-even-run w m =
+-- a run within the limits is in range
+pub within-run : (w : List ℤ) → outsideIn w ≡ false → allInRange w ≡ true
+unfolding outsideIn allInRange
+within-run w m =
     all-true (λ i. inRange (getD w i (pos 0))) (length w)
-    (λ i l. even-ranged (getD w i (pos 0)) (any-at (λ i. odd (getD w i (pos 0))) (length w) m i l))
+    (λ i l. within-ranged (getD w i (pos 0)) (any-at (λ i. outside (getD w i (pos 0))) (length w) m i l))
 
 module _ (s : Settings) (xs : List ℤ) (good : Good s) (shaped : shapeCheck s xs ≡ Accepted) where
   abbrev ys : List ℤ
@@ -153,30 +152,30 @@ module _ (s : Settings) (xs : List ℤ) (good : Good s) (shaped : shapeCheck s x
     read-sample c i l m =
         read-at xs (3 * (begin s j + i) + c) ∙ ap readAs (sym (sample-is xs (begin s j) (s .n / 2) fits c i l m))
 
-    odd-is : oddIn w ≡ stepMissing s ys j
-    unfolding oddIn
-    odd-is =
-        rw (part-length xs (begin s j) (s .n / 2) fits, any-threes (λ i. odd (getD w i (pos 0))) (s .n / 2))
+    outside-is : outsideIn w ≡ stepMissing s ys j
+    unfolding outsideIn
+    outside-is =
+        rw (part-length xs (begin s j) (s .n / 2) fits, any-threes (λ i. outside (getD w i (pos 0))) (s .n / 2))
         (any-same _ _ (s .n / 2) (λ i l. any-same _ _ 3 (λ c m. sym (ap missing (read-sample c i m l) ∙ missing-read (sampleAt w c i)))))
 
-    squares-are : oddIn w ≡ false → (c : ℕ) → c < 3 → squaresIn w c (samplesOf w) ≡ stepSquares s ys j c
-    unfolding oddIn
+    squares-are : outsideIn w ≡ false → (c : ℕ) → c < 3 → squaresIn w c (samplesOf w) ≡ stepSquares s ys j c
+    unfolding outsideIn
     squares-are e c l =
         rw (part-samples xs (begin s j) (s .n / 2) fits)
         (sum-same _ _ (s .n / 2)
-        (λ i m. ap square (sym (read-sample c i l m ∙ even-read (sampleAt w c i)
-        (any-at (λ i. odd (getD w i (pos 0))) (length w) e (3 * i + c) (omega (arith, part-length xs (begin s j) (s .n / 2) fits)))))))
+        (λ i m. ap square (sym (read-sample c i l m ∙ within-read (sampleAt w c i)
+        (any-at (λ i. outside (getD w i (pos 0))) (length w) e (3 * i + c) (omega (arith, part-length xs (begin s j) (s .n / 2) fits)))))))
 
-    sums-are : oddIn w ≡ false → sumsIn w ≡ stepSums s ys j
+    sums-are : outsideIn w ≡ false → sumsIn w ≡ stepSums s ys j
     unfolding sumsIn
     sums-are e = rw (squares-are e 0 (omega arith), squares-are e 1 (omega arith), squares-are e 2 (omega arith))
 
     pub step-is : stepAt s xs j ≡ cond (stepMissing s ys j) Unknown (Known (stepSums s ys j))
     unfolding stepAt stepIn
     step-is =
-        ⊎-elim (λ e. let f : stepMissing s ys j ≡ true = sym odd-is ∙ e in rw (e, f))
-        (λ e. let f : stepMissing s ys j ≡ false = sym odd-is ∙ e in rw (e, f, sums-are e))
-        (cases (oddIn w))
+        ⊎-elim (λ e. let f : stepMissing s ys j ≡ true = sym outside-is ∙ e in rw (e, f))
+        (λ e. let f : stepMissing s ys j ≡ false = sym outside-is ∙ e in rw (e, f, sums-are e))
+        (cases (outsideIn w))
 
     pub step-few : length w ≤ 768
     step-few = omega (arith, part-length xs (begin s j) (s .n / 2) fits, good .n-high)
@@ -186,15 +185,15 @@ module _ (s : Settings) (xs : List ℤ) (good : Good s) (shaped : shapeCheck s x
 
     pub step-addable : Addable (stepAt s xs j)
     unfolding stepAt stepIn sumsIn
-    step-addable = ⊎-elim (λ e. rw e tt) (λ e. rw e (low e 0 (omega arith), low e 1 (omega arith), low e 2 (omega arith))) (cases (oddIn w))
+    step-addable = ⊎-elim (λ e. rw e tt) (λ e. rw e (low e 0 (omega arith), low e 1 (omega arith), low e 2 (omega arith))) (cases (outsideIn w))
       where
-        low : oddIn w ≡ false → (c : ℕ) → c < 3 → squaresIn w c (samplesOf w) ≤ 2560000000000
+        low : outsideIn w ≡ false → (c : ℕ) → c < 3 → squaresIn w c (samplesOf w) ≤ 2560000000000
         low e c l = omega (arith, squares-in-low w (low-run w e) c (samplesOf w) l (omega arith), step-few)
 
     -- a known step is in range
     pub known-step : known (stepAt s xs j) ≡ true → allInRange w ≡ true
     unfolding stepAt stepIn
-    known-step e = ⊎-elim (λ o. absurd (false≢true (rw o at e))) (λ o. even-run w o) (cases (oddIn w))
+    known-step e = ⊎-elim (λ o. absurd (false≢true (rw o at e))) (λ o. within-run w o) (cases (outsideIn w))
 
     -- a step in range makes what is known to be in range longer; a bad one is a bad sample of the recording
     pub ranged-next : RangedBelow xs (3 * begin s j) → allInRange w ≡ true → RangedBelow xs (3 * begin s (suc j))

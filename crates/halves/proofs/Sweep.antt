@@ -1,4 +1,4 @@
--- One pass over a run: the lowest and the highest sample tell whether one is odd, and where none is no sum has wrapped. Assumes nothing.
+-- One pass over a run: the lowest and the highest sample tell whether one lies outside the limits, and where none does no sum has wrapped. Assumes nothing.
 use Prim.Native.Nat.{ℕ, zero, suc, _+_, _*_, _%_, _^_, _≤_, _<_}
 use mathlib.Core.Path.{_≡_, refl, sym, ap, _∙_}
 use mathlib.Core.Bool.{Bool, true, false, _||_, cond}
@@ -11,16 +11,15 @@ use borrow.Author.Tests.{ltb-true, ltb-false, lt-ltb, le-ltb}
 use lib.Dec.{ltb}
 use lib.IntN.{ℤ, pos, negsuc}
 use lib.ListN.{length, getD}
-use Rattle.rules.specs.Bounded.{any, sum}
+use Rattle.rules.specs.Bounded.{any}
 use Rattle.rules.specs.Recorder.{sampleAt}
 use Rattle.rules.specs.Halves.{samplesOf, square}
-use Rattle.rules.specs.declared.Half.{Half}
 use Rattle.rules.specs.declared.Half.the-variants.{Unknown, Known}
 use Rattle.rules.proofs.Booleans.{cases}
 use Rattle.rules.proofs.Bounded.{any-same, sum-next}
-use Rattle.checks.specs.Flags.{odd, tooLow, tooHigh}
-use Rattle.checks.proofs.Tests.{odd-is}
-use Rattle.halves.specs.Steps.{lesserOf, greaterOf, oddIn, squaresIn, sumsIn, stepIn}
+use Rattle.checks.specs.Flags.{outside, tooLow, tooHigh}
+use Rattle.checks.proofs.Tests.{outside-is}
+use Rattle.halves.specs.Steps.{lesserOf, greaterOf, outsideIn, squaresIn, sumsIn, stepIn}
 use Rattle.halves.proofs.Parts.{squares-in-low, low-run}
 
 -- ---- the lesser and the greater of two
@@ -126,26 +125,26 @@ any-or p q (suc n) = rw (any-or p q n) (swap (any p n) (any q n) (p n) (q n))
     swap false false false d = refl
 
 module _ (w : List ℤ) (n : ℕ) (all : n ≡ samplesOf w) (few : length w ≤ 768) (threes : length w % 3 ≡ 0) where
-  pub odd-told : (low high : ℤ) → tooLow low ≡ someBelow tooLow w n → tooHigh high ≡ someBelow tooHigh w n → tooLow low || tooHigh high ≡ oddIn w
-  unfolding oddIn
-  odd-told low high e f =
+  pub outside-told : (low high : ℤ) → tooLow low ≡ someBelow tooLow w n → tooHigh high ≡ someBelow tooHigh w n → tooLow low || tooHigh high ≡ outsideIn w
+  unfolding outsideIn
+  outside-told low high e f =
       let size : 3 * n ≡ length w = omega (arith, all, threes) in
       rw (e, f)
       (sym (any-or (λ j. tooLow (getD w j (pos 0))) (λ j. tooHigh (getD w j (pos 0))) (3 * n))
-      ∙ any-same _ (λ j. odd (getD w j (pos 0))) (3 * n) (λ j l. odd-is (getD w j (pos 0)))
-      ∙ ap (any (λ j. odd (getD w j (pos 0)))) size)
+      ∙ any-same _ (λ j. outside (getD w j (pos 0))) (3 * n) (λ j l. outside-is (getD w j (pos 0)))
+      ∙ ap (any (λ j. outside (getD w j (pos 0)))) size)
 
-  exact : oddIn w ≡ false → (c a : ℕ) → c < 3 → a ≡ squaresIn w c n % 2 ^ 64 → a ≡ squaresIn w c (samplesOf w)
+  exact : outsideIn w ≡ false → (c a : ℕ) → c < 3 → a ≡ squaresIn w c n % 2 ^ 64 → a ≡ squaresIn w c (samplesOf w)
   exact e c a l f =
       let low = squares-in-low w (low-run w e) c n l (omega (arith, all)) in
       let fits : squaresIn w c n < 2 ^ 64 = omega (arith, low, all, few) in
       f ∙ mod-eq-of-lt fits ∙ ap (squaresIn w c) all
 
-  pub step-unknown : oddIn w ≡ true → Unknown ≡ stepIn w
+  pub step-unknown : outsideIn w ≡ true → Unknown ≡ stepIn w
   unfolding stepIn
   step-unknown e = rw e
 
-  pub step-known : oddIn w ≡ false → (a b c : ℕ) → a ≡ squaresIn w 0 n % 2 ^ 64 → b ≡ squaresIn w 1 n % 2 ^ 64 → c ≡ squaresIn w 2 n % 2 ^ 64
+  pub step-known : outsideIn w ≡ false → (a b c : ℕ) → a ≡ squaresIn w 0 n % 2 ^ 64 → b ≡ squaresIn w 1 n % 2 ^ 64 → c ≡ squaresIn w 2 n % 2 ^ 64
       → Known (record { a = a; b = b; c = c }) ≡ stepIn w
   unfolding stepIn sumsIn
   step-known e a b c f g h = rw (e, exact e 0 a (omega arith) f, exact e 1 b (omega arith) g, exact e 2 c (omega arith) h)

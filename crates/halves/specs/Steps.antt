@@ -13,7 +13,7 @@ use Rattle.rules.specs.declared.Settings.{Settings}
 use Rattle.rules.specs.declared.Sums.{Sums}
 use Rattle.rules.specs.declared.Half.{Half}
 use Rattle.rules.specs.declared.Half.the-variants.{Unknown, Known}
-use Rattle.checks.specs.Flags.{odd}
+use Rattle.checks.specs.Flags.{outside}
 
 -- m samples of each channel, from sample b on
 abbrev pub part : List ℤ → ℕ → ℕ → List ℤ
@@ -27,9 +27,9 @@ window s xs k = part xs (begin s k) (s .n)
 abbrev pub stepRun : Settings → List ℤ → ℕ → List ℤ
 stepRun s xs j = part xs (begin s j) (s .n / 2)
 
--- some sample is odd: missing, or bad
-unfoldable pub oddIn : List ℤ → Bool
-oddIn w = any (λ i. odd (getD w i (pos 0))) (length w)
+-- some sample lies outside the limits: it is missing, or bad
+unfoldable pub outsideIn : List ℤ → Bool
+outsideIn w = any (λ i. outside (getD w i (pos 0))) (length w)
 
 -- the lesser and the greater of two samples
 abbrev pub lesserOf : ℤ → ℤ → ℤ
@@ -45,9 +45,9 @@ squaresIn w c n = sum (λ i. square (sampleAt w c i)) n
 unfoldable pub sumsIn : List ℤ → Sums
 sumsIn w = record { a = squaresIn w 0 (samplesOf w); b = squaresIn w 1 (samplesOf w); c = squaresIn w 2 (samplesOf w) }
 
--- what a step is: unknown where a sample is odd, and else its sums
+-- what a step is: unknown where a sample lies outside the limits, and else its sums
 unfoldable pub stepIn : List ℤ → Half
-stepIn w = cond (oddIn w) Unknown (Known (sumsIn w))
+stepIn w = cond (outsideIn w) Unknown (Known (sumsIn w))
 
 unfoldable pub stepAt : Settings → List ℤ → ℕ → Half
 stepAt s xs j = stepIn (stepRun s xs j)

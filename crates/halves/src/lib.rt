@@ -12,8 +12,8 @@ ghost use Rattle.checks.specs.Flags.{allInRange, RangedBelow, shapeCheck};
 ghost use Rattle.halves.specs.Steps.{part, window, stepRun, lesserOf, greaterOf, stepIn, stepAt, joinedOf, Addable};
 use checks::all_in_range;
 use checks::first_bad;
-use checks::is_high;
-use checks::is_low;
+use checks::is_too_high;
+use checks::is_too_low;
 use rules::Half;
 use rules::Refusal;
 use rules::Settings;
@@ -70,8 +70,8 @@ fn greater(x: i32, y: i32) -> i32
     if x < y { y } else { x }
 }
 
-// A step's three sums of squares; unknown where a sample is missing, or bad. One pass, with no branch: the sums wrap where a sample
-// lies far outside the limits, and the lowest and the highest tell so.
+// A step's three sums of squares; unknown where a sample is missing, or bad. One pass, with no branch: the sums may wrap where a sample
+// lies outside the limits, and the lowest and the highest, 0 among them, tell whether one does.
 fn step_of(w: &[i32]) -> Half
     requires few { ⌜ length (now w) ≤ 768 ⌝ }
     requires threes { ⌜ length (now w) % 3 ≡ 0 ⌝ }
@@ -95,7 +95,7 @@ fn step_of(w: &[i32]) -> Half
         c = wrapping_add_u64(c, square(z));
         i += 1;
     }
-    if is_low(low) | is_high(high) {
+    if is_too_low(low) | is_too_high(high) {
         return Half::Unknown;
     }
     Half::Known(Sums { a: a, b: b, c: c })

@@ -9,7 +9,7 @@ use borrow.Author.Tests.{not-true}
 use lib.Seq.{sets}
 use lib.IntN.{ℤ}
 use Rattle.rules.specs.Bounded.{before}
-use Rattle.rules.specs.Halves.{known, halfAt}
+use Rattle.rules.specs.Halves.{halfAt}
 use Rattle.rules.specs.Events.{inEvent, starts}
 use Rattle.rules.specs.EventList.{eventFrom, wordsOf}
 use Rattle.rules.specs.Demands.{Good, AcceptedRecording}

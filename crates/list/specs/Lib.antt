@@ -1,2 +1,2 @@
--- The two passes of the lister, as definitions over the machine; proofs/ ties them to the rules.
+-- The writing pass.
 pub mod Listing

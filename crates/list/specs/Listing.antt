@@ -112,7 +112,7 @@ unfoldable pub turnsOut : Settings → List ℤ → ℕ → ℕ → Pass → Lis
 turnsOut s xs k zero p out = out
 turnsOut s xs k (suc d) p out = turnedOut s xs (k + d) (turns s xs k d p) (turnsOut s xs k d p out)
 
--- nothing has changed but that the half-cycle before is known, if there are any that are passed over
+-- where half-cycles are passed over the one before is known; nothing else changes
 abbrev pub rested : Pass → Bool → Pass
 rested p any = record { known = p .known || any; n = p .n; sag = p .sag; interruption = p .interruption; swell = p .swell }
 
@@ -124,7 +124,8 @@ pub record Readable (s : Settings) (xs : List ℤ) (halves : ℕ) (step : Half) 
   pub high : k ≤ halves
   pub step-is : step ≡ stepAt s xs k
 
--- what a run of half-cycles asks: each of its turns is ready
+-- what a run of half-cycles asks: each of its turns is ready. The slots of turns to come lie within the room, and only the caller knows
+-- how many events there are (`turns-ready`, proofs/Writing)
 pub record Running (s : Settings) (xs : List ℤ) (m : Thresholds) (halves from to : ℕ) (p : Pass) (room : ℕ) : Type 0 where
   pub good-settings : settingsGood s ≡ true
   pub accepted : recordingCheck s xs ≡ Accepted
@@ -138,7 +139,7 @@ abbrev pub differs : Bool → Bool → Bool
 differs true b = not b
 differs false b = b
 
--- what the pass asks that stands before group g: each turn from there on is ready, and the notes are right
+-- what the pass asks that stands before group g: each turn from there on is ready, as above, and the notes are right
 pub record WritingOn (s : Settings) (xs : List ℤ) (m : Thresholds) (halves : ℕ) (notes : List Bool) (g : ℕ) (p : Pass) (room : ℕ) : Type 0 where
   pub good-settings : settingsGood s ≡ true
   pub accepted : recordingCheck s xs ≡ Accepted

@@ -1,4 +1,4 @@
--- A known step has no odd sample; an unknown one is looked at again. Assumes nothing.
+-- A known step has no sample outside the limits; an unknown one is looked at again. Assumes nothing.
 use mathlib.Core.Path.{sym, ap, _∙_}
 use Rattle.rules.proofs.Ranges.{good}
 use Rattle.rules.specs.Halves.{known}

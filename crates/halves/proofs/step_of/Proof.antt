@@ -1,4 +1,4 @@
--- The invariant: the lowest and the highest sample tell whether one so far is odd, and each sum is that of the rules, wrapped. The measure is
+-- The invariant: the lowest and the highest sample tell whether one so far lies outside the limits, and each sum is that of the rules, wrapped. The measure is
 -- what is left of the samples. Assumes nothing.
 use Prim.Native.Nat.{ℕ, _+_, _-_, _*_, _%_, _^_, _≤_}
 use mathlib.Core.Path.{_≡_, refl, sym, ap, _∙_}
@@ -13,8 +13,8 @@ use mir.Val.{toZ}
 use mir.ValLaws.{toZ-ofZ}
 use Rattle.rules.specs.Halves.{samplesOf, square}
 use Rattle.checks.specs.Flags.{tooLow, tooHigh}
-use Rattle.halves.specs.Steps.{oddIn, squaresIn}
-use Rattle.halves.proofs.Sweep.{someBelow, low-more, high-more, sum-more, odd-told, step-unknown, step-known}
+use Rattle.halves.specs.Steps.{outsideIn, squaresIn}
+use Rattle.halves.proofs.Sweep.{someBelow, low-more, high-more, sum-more, outside-told, step-unknown, step-known}
 use Rattle.halves.proofs.step_of.Statement.{statement}
 use Rattle.halves.proofs.step_of.Tie as tie
 
@@ -26,16 +26,16 @@ Inv-loop w n a₀ b₀ c₀ low₀ high₀ i₀ a b c low high i =
 abbrev μ-loop : tie.MeasureT-loop
 μ-loop w n a₀ b₀ c₀ low₀ high₀ i₀ a b c low high i = samplesOf w - i
 
--- at the end all samples are passed, and the two tests tell whether one is odd
+-- at the end all samples are passed, and the two tests tell whether one lies outside
 done : (c : tie.After-loop Inv-loop μ-loop) → c .before .loop .i ≡ samplesOf (now (c .before .before .args .w))
 done c = omega (arith, c .loop-test .left, c .before .loop .inv .0)
 
-told : (c : tie.After-is-high Inv-loop μ-loop)
-    → c .before .is-low .result || c .is-high .result ≡ oddIn (now (c .before .before .before .before .args .w))
+told : (c : tie.After-is-too-high Inv-loop μ-loop)
+    → c .before .is-too-low .result || c .is-too-high .result ≡ outsideIn (now (c .before .before .before .before .args .w))
 told c =
     let l = c .before .before .before .loop in
     let s = c .before .before .before .before in
-    both _ _ _ _ (c .before .is-low .ensures) (c .is-high .ensures) ∙ odd-told _ _ (done (c .before .before)) (s .pre .0) (s .pre .1) (toZ w32 (l .low)) (toZ w32 (l .high)) (l .inv .1) (l .inv .2)
+    both _ _ _ _ (c .before .is-too-low .ensures) (c .is-too-high .ensures) ∙ outside-told _ _ (done (c .before .before)) (s .pre .0) (s .pre .1) (toZ w32 (l .low)) (toZ w32 (l .high)) (l .inv .1) (l .inv .2)
   where
     both : (a b x y : Bool) → a ≡ x → b ≡ y → a || b ≡ x || y
     both a b x y e f = rw (e, f)
@@ -156,11 +156,11 @@ loop-again c =
       sum-more w 2 i _ _ _ (l .inv .5) (s₃ .square3 .ensures ∙ ap square ez) (c .wrapping-add-u643 .ensures),
     )
 
-is-low-requires : tie.Need-is-low-requires Inv-loop μ-loop
-is-low-requires c κs = search needs
+is-too-low-requires : tie.Need-is-too-low-requires Inv-loop μ-loop
+is-too-low-requires c κs = search needs
 
-is-high-requires : tie.Need-is-high-requires Inv-loop μ-loop
-is-high-requires c κs = search needs
+is-too-high-requires : tie.Need-is-too-high-requires Inv-loop μ-loop
+is-too-high-requires c κs = search needs
 
 returns : tie.Need-returns Inv-loop μ-loop
 returns c =
@@ -209,7 +209,7 @@ step-of-spec =
     add-i
     loop-less
     loop-again
-    is-low-requires
-    is-high-requires
+    is-too-low-requires
+    is-too-high-requires
     returns
     returns-2)
