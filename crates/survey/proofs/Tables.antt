@@ -27,7 +27,7 @@ use Rattle.kinds.specs.declared.Thresholds.{Thresholds}
 use Rattle.survey.specs.declared.Landed.{Landed}
 use Rattle.survey.specs.declared.Survey.{Survey}
 use Rattle.survey.specs.declared.Surveyed.{Surveyed}
-use Rattle.survey.specs.Pass.{landedBy, cellsBy, Landable, Surveying, SurveyedTo, cellsAt, surveyAt, startSurvey, turnedAway, tabled}
+use Rattle.survey.specs.Pass.{landedBy, cellsBy, Landable, Surveying, SurveyedTo, cellsAt, surveyAt, startSurvey, turnedAway, takenWith, tabled}
 use Rattle.survey.proofs.Passes.{at-start, cells-start, ask-last, table-made}
 
 -- before half-cycle k: the survey, the cells and the step are those of k, and all samples up to that step are in range
@@ -122,23 +122,6 @@ module _ (s : Settings) (xs : List ℤ) (good-settings : settingsGood s ≡ true
     taken t e = rw (e, read-itself xs whole, by-range s xs shaped, range-good xs whole)
 
     pub end-made : (d : Landed) (cs′ : List ℕ) → d ≡ landedBy (p .landed) (p .track .sag .inside) (p .track .sag) false
-        → cs′ ≡ cellsBy s (p .track .sag .inside) (p .track .sag) halves false cs
-        → _≡_ {A = Handed} (record {
-          answer = Accepted;
-          table =
-              record {
-                settings = s;
-                total = halves;
-                healthy = p .classes .healthy;
-                disturbed = p .classes .disturbed;
-                unknown = p .classes .unknown;
-                cells = cs′;
-                unplaced = d .unplaced;
-                sags = p .starts .sags;
-                interruptions = p .starts .interruptions;
-                swells = p .starts .swells;
-                shortfall = d .shortfall;
-              };
-        }) (tabled s xs)
+        → cs′ ≡ cellsBy s (p .track .sag .inside) (p .track .sag) halves false cs → takenWith s halves p d cs′ ≡ tabled s xs
     end-made d cs′ e f =
         taken _ (table-made s (asRead xs) good-settings (read-taken s xs shaped) halves k p cs counted (done ∙ counted) (r .state) (r .cells-are) d cs′ e f)

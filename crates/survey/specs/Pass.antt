@@ -18,7 +18,7 @@ use Rattle.rules.specs.declared.Kind.{Kind}
 use Rattle.rules.specs.declared.Kind.the-variants.{Sag, Interruption, Swell}
 use Rattle.rules.specs.declared.Refusal.{Refusal}
 use Rattle.rules.specs.declared.Site.{Site as Handed}
-use Rattle.rules.specs.declared.Taken.the-variants.{Refused}
+use Rattle.rules.specs.declared.Taken.the-variants.{Accepted, Refused}
 use Rattle.checks.specs.Flags.{allInRange, RangedBelow, asRead}
 use Rattle.halves.specs.Steps.{stepRun, stepAt}
 use Rattle.kinds.specs.Machine.{levelFrom, goesBy, stepBy, closed, opens, Marked, Few, Light}
@@ -238,6 +238,27 @@ pub record SurveyedTo (s : Settings) (xs : List ℤ) (from : ℕ) (r : Surveyed)
 -- a refusal, beside an empty table
 abbrev pub turnedAway : Settings → Refusal → Handed
 turnedAway s r = record { answer = Refused r; table = empty s }
+
+-- the table of the numbers counted, beside "accepted"
+abbrev pub takenWith : Settings → ℕ → Survey → Landed → List ℕ → Handed
+takenWith s halves p d cs =
+    record {
+      answer = Accepted;
+      table =
+          record {
+            settings = s;
+            total = halves;
+            healthy = p .classes .healthy;
+            disturbed = p .classes .disturbed;
+            unknown = p .classes .unknown;
+            cells = cs;
+            unplaced = d .unplaced;
+            sags = p .starts .sags;
+            interruptions = p .starts .interruptions;
+            swells = p .starts .swells;
+            shortfall = d .shortfall;
+          };
+    }
 
 -- what the checks of the recording answer, and its table where they accept it
 unfoldable pub tabled : Settings → List ℤ → Handed

@@ -10,7 +10,7 @@ ghost use Rattle.rules.specs.declared.Taken.the-variants.{Accepted};
 ghost use Rattle.checks.specs.Flags.{shapeCheck};
 ghost use Rattle.quiet.specs.Quiet.{quietTill, Reading, StoppedAt};
 ghost use Rattle.kinds.specs.Machine.{Light};
-ghost use Rattle.survey.specs.Pass.{trackedBy, classedBy, startedBy, landedBy, cellsBy, Placeable, Landable, Turnable, surveyedBy, cellsTurned, goingOn, passedOver, Surveying, SurveyedTo, startSurvey, turnedAway, tabled};
+ghost use Rattle.survey.specs.Pass.{trackedBy, classedBy, startedBy, landedBy, cellsBy, Placeable, Landable, Turnable, surveyedBy, cellsTurned, goingOn, passedOver, Surveying, SurveyedTo, startSurvey, turnedAway, takenWith, tabled};
 use checks::count_halves;
 use halves::bad_sample;
 use halves::joined;
@@ -360,6 +360,30 @@ fn turned_away(s: Settings, refusal: Refusal) -> Site
     }
 }
 
+// The table of the numbers counted, beside "accepted".
+fn taken(s: Settings, halves: u64, p: Survey, landed: Landed, cells: [u64; 40]) -> Site
+    ensures { λ r. ⌜ r ≡ takenWith s halves p landed cells ⌝ }
+{
+    let classes = p.classes;
+    let starts = p.starts;
+    Site {
+        answer: Taken::Accepted,
+        table: Table {
+            settings: s,
+            total: halves,
+            healthy: classes.healthy,
+            disturbed: classes.disturbed,
+            unknown: classes.unknown,
+            cells,
+            unplaced: landed.unplaced,
+            sags: starts.sags,
+            interruptions: starts.interruptions,
+            swells: starts.swells,
+            shortfall: landed.shortfall,
+        },
+    }
+}
+
 // The table of one recording of good length, or refusal 6, which is told as soon as a bad sample is met. Half-cycle H, which does not
 // exist, ends a sag that is still going on.
 pub fn table_of(s: Settings, samples: &[i32]) -> Site
@@ -387,22 +411,5 @@ pub fn table_of(s: Settings, samples: &[i32]) -> Site
     let track = p.track;
     let open = track.sag;
     let landed = land(s, p.landed, open.inside, open, halves, false, &mut cells);
-    let classes = p.classes;
-    let starts = p.starts;
-    Site {
-        answer: Taken::Accepted,
-        table: Table {
-            settings: s,
-            total: halves,
-            healthy: classes.healthy,
-            disturbed: classes.disturbed,
-            unknown: classes.unknown,
-            cells,
-            unplaced: landed.unplaced,
-            sags: starts.sags,
-            interruptions: starts.interruptions,
-            swells: starts.swells,
-            shortfall: landed.shortfall,
-        },
-    }
+    taken(s, halves, p, landed, cells)
 }

@@ -1,7 +1,7 @@
 -- The invariant: before half-cycle k the survey has reached it, which is what surveying on asks. The measure is what is left of the
 -- half-cycles. Assumes nothing.
 use Prim.Native.Nat.{ℕ, _-_, _≤_}
-use mathlib.Core.Path.{_≡_}
+use mathlib.Core.Path.{_≡_, _∙_}
 use native.Mathlib.Omega.{arith}
 use borrow.Author.Needs.{needs}
 use borrow.Author.Tests.{not-true, not-false}
@@ -110,13 +110,16 @@ land-requires c κs =
     let v = start t .pre in
     ask-end _ _ (v .0) (v .1) _ _ _ _ _ (counted t) (ended e) (t .loop .inv .1)
 
+taken-requires : tie.Need-taken-requires Inv-loop μ-loop
+taken-requires c κs = search needs
+
 returns-3 : tie.Need-returns-3 Inv-loop μ-loop
 returns-3 c =
-    let e = c .before .before .before .before .before .before in
+    let e = c .before .before .before .before .before in
     let t = e .before in
     let v = start t .pre in
-    let l = c .before .before .land .ensures in
-    end-made _ _ (v .0) (v .1) _ _ _ _ _ (counted t) (ended e) (t .loop .inv .1) _ _ (l .0) (l .1)
+    let l = c .before .land .ensures in
+    c .taken .ensures ∙ end-made _ _ (v .0) (v .1) _ _ _ _ _ (counted t) (ended e) (t .loop .inv .1) _ _ (l .0) (l .1)
 
 pub table-of-spec : {M : Type 1} → statement M
 table-of-spec =
@@ -140,4 +143,5 @@ table-of-spec =
     loop-less
     loop-again
     land-requires
+    taken-requires
     returns-3)
