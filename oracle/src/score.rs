@@ -55,9 +55,16 @@ fn curve(s: &Settings, h: u64) -> u64 {
         500
     } else if h <= s.f {
         700
-    } else {
+    } else if h <= 20 * s.f {
         800
+    } else {
+        900
     }
+}
+
+/// The last duration of each of the curve's values but the last, and the first of the next: where a comparison has to look.
+pub fn beside_the_steps(f: u64) -> [u64; 8] {
+    [2, 3, 2 * f / 5, 2 * f / 5 + 1, f, f + 1, 20 * f, 20 * f + 1]
 }
 
 /// The two floats of an event, or the reason why it has none.

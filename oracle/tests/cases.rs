@@ -1,6 +1,7 @@
 //! The second table of cases, crates/rules/specs/Cases.antt: the file is what the second program writes, its linear and its
 //! swift form and the proved library give the same answers, and the cases reach every corner that can be told from an answer.
 use oracle::cases::{sections, text, Answer, Asked, Program, FILE, SECOND};
+use oracle::score::beside_the_steps;
 use oracle::{plain, swift, Settings};
 use std::collections::BTreeSet;
 
@@ -63,6 +64,8 @@ struct Reached {
     reasons: BTreeSet<u64>,
     rows: BTreeSet<u64>,
     columns: BTreeSet<(u64, u64)>,
+    /// f, and how many half-cycles a sag that has a score lasts.
+    lasting: BTreeSet<(u64, u64)>,
 }
 
 impl Reached {
@@ -85,11 +88,12 @@ impl Reached {
             (Asked::Fresh { .. }, Answer::Site { told: Err(refused), .. }) => {
                 self.bad_settings.insert(refused.place);
             }
-            (Asked::Score { settings: Settings { f, .. }, .. }, Answer::Judged { reason, cell, .. }) => {
+            (Asked::Score { settings: Settings { f, .. }, event }, Answer::Judged { reason, cell, .. }) => {
                 self.reasons.insert(*reason);
                 if *reason == 0 {
                     self.rows.insert(cell / 8);
                     self.columns.insert((*f, cell % 8));
+                    self.lasting.insert((*f, event[2] - event[1]));
                 }
             }
             _ => {}
@@ -114,4 +118,7 @@ fn every_corner_is_reached() {
     assert_eq!(reached.reasons, (0..=6).collect());
     assert_eq!(reached.rows, (0..=4).collect());
     assert_eq!(reached.columns, columns.collect());
+    for lasts in [50, 60].into_iter().flat_map(|f| beside_the_steps(f).map(move |h| (f, h))) {
+        assert!(reached.lasting.contains(&lasts), "{lasts:?}");
+    }
 }

@@ -2,6 +2,7 @@
 //! one agree with the naive one, and the drawn cases reach every corner of the rules. On the same cases: each interruption
 //! in one sag.
 use oracle::compare::{draw, of_the_oracle, run, Case, Drawn, Report, Until};
+use oracle::score::beside_the_steps;
 use oracle::{plain, recording, settings, site, swift, Event, Refused, Settings, Table};
 use std::collections::BTreeSet;
 use std::process::Command;
@@ -158,6 +159,8 @@ struct Reached {
     kinds_and_seen: BTreeSet<(u64, u64)>,
     types: BTreeSet<u64>,
     samples_per_cycle: BTreeSet<u64>,
+    /// f, and how many half-cycles a sag that has a score lasts.
+    lasting: BTreeSet<(u64, u64)>,
 }
 
 impl Reached {
@@ -175,9 +178,12 @@ impl Reached {
             }
             Case::Add { .. } => drop(self.add_refusals.insert(first(0))),
             Case::Fresh { .. } => drop(self.fresh_places.insert(first(1))),
-            Case::Score { .. } => {
+            Case::Score { settings, event } => {
                 self.reasons.insert(first(0));
                 self.cells.insert(first(4));
+                if first(0) == 0 {
+                    self.lasting.insert((settings.f, event[2] - event[1]));
+                }
             }
         }
     }
@@ -206,4 +212,7 @@ fn the_cases_reach_every_corner() {
     assert_eq!(reached.kinds_and_seen, (1..=3).flat_map(|kind| (0..=3).map(move |seen| (kind, seen))).collect());
     assert_eq!(reached.types, (0..=6).collect());
     assert_eq!(reached.samples_per_cycle, (4..=256).map(|half| 2 * half).collect());
+    for lasts in [50, 60].into_iter().flat_map(|f| beside_the_steps(f).map(move |h| (f, h))) {
+        assert!(reached.lasting.contains(&lasts), "{lasts:?}");
+    }
 }

@@ -1,5 +1,5 @@
-//! The known answers K1 to K12 of the rules, held against the second program, its linear and its swift form, and the proved
-//! library.
+//! The known answers K1 to K12 of the rules, and sags on both sides of the curve's last step, held against the second program,
+//! its linear and its swift form, and the proved library.
 use oracle::recording::MISSING;
 use oracle::site::at;
 use oracle::{Event, Refused, Settings, Table, TABLE};
@@ -33,10 +33,14 @@ fn assert_listed(samples: &[i32], events: &[Event]) {
 
 /// Cell, severity and energy of a sag, its energy in milliseconds.
 fn assert_scored(event: Event, cell: u64, severity: f64, milliseconds: f64) {
+    assert_scored_under(&SETTINGS, event, cell, severity, milliseconds);
+}
+
+fn assert_scored_under(s: &Settings, event: Event, cell: u64, severity: f64, milliseconds: f64) {
     let expected = oracle::Score { severity, energy: milliseconds / 1000.0 };
     for (score, reason, at) in [
-        (oracle::score(&SETTINGS, &event), oracle::reason(&SETTINGS, &event), oracle::cell(&SETTINGS, &event)),
-        (host::score(&SETTINGS, &event), host::reason(&SETTINGS, &event), host::cell(&SETTINGS, &event)),
+        (oracle::score(s, &event), oracle::reason(s, &event), oracle::cell(s, &event)),
+        (host::score(s, &event), host::reason(s, &event), host::cell(s, &event)),
     ] {
         assert_eq!((score, reason, at), (Ok(expected), 0, cell));
     }
@@ -176,6 +180,39 @@ fn k12_a_sag_on_one_channel() {
     let sag = [1, 1, 4, 3, 2_000_000, 500, 12_000_000, 4];
     assert_listed(&samples, &[sag]);
     assert_scored(sag, 17, 1.0, 15.0);
+}
+
+/// A sag of so many half-cycles at 899 on all channels, each of which lacks what K4's lacks.
+fn at_899(half_cycles: u64) -> Event {
+    [1, 7, 7 + half_cycles, 3, 6_465_608, 899, 4_603_176 * half_cycles, 0]
+}
+
+/// 20 f half-cycles are 10 s. Up to there the curve stands at 800, after it at 900; the cell is the same.
+#[test]
+fn the_last_step_of_the_curve() {
+    let sixty = Settings { f: 60, ..SETTINGS };
+    assert_scored_under(&SETTINGS, at_899(1_000), 37, 0.505, 5_753.0);
+    assert_scored_under(&SETTINGS, at_899(1_001), 37, 1.01, 5_759.0);
+    assert_scored_under(&sixty, at_899(1_200), 37, 0.505, 5_753.0);
+    assert_scored_under(&sixty, at_899(1_201), 37, 1.01, 5_758.0);
+}
+
+/// Each retained value that a sag can have, under the highest sag threshold: beyond 20 f half-cycles its severity is twice what
+/// it is up to there, bit for bit. So it stays to the longest sag.
+#[test]
+fn beyond_10_seconds_severity_doubles() {
+    for f in [50, 60] {
+        let s = Settings { f, sag: 95, ..SETTINGS };
+        for retained in 0..950 {
+            let sag = |half_cycles| [1, 0, half_cycles, 3, s.n * retained * retained, retained, 0, 0];
+            for score in [oracle::score, host::score] {
+                let severity = |half_cycles| score(&s, &sag(half_cycles)).unwrap().severity;
+                let [last, first, longest] = [20 * f, 20 * f + 1, 100_000].map(severity);
+                assert_eq!((2.0 * last).to_bits(), first.to_bits(), "f {f}, retained {retained}");
+                assert_eq!(first, longest, "f {f}, retained {retained}");
+            }
+        }
+    }
 }
 
 #[test]

@@ -51,7 +51,6 @@ fn severities_of_the_guide() {
                 match words[4..] {
                     ["same"] => assert_near(score, printed, 0.005, program, &words),
                     ["reason", why] => assert_eq!(score, Err(why.parse().unwrap()), "{program} {words:?}"),
-                    [other] => assert_near(score, number(other), 0.005, program, &words),
                     _ => panic!("no such line: {words:?}"),
                 }
             }

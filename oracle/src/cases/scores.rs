@@ -25,12 +25,14 @@ pub fn durations() -> Section {
         (100, "h = 2f, column 4"),
         (299, "below 6f, column 4"),
         (300, "h = 6f, column 5"),
+        (1_000, "h = 20f, the curve is 800"),
+        (1_001, "the curve is 900"),
         (1_999, "below 40f, column 5"),
         (2_000, "h = 40f, column 6"),
         (5_999, "below 120f, column 6"),
         (6_000, "h = 120f, column 7"),
     ];
-    let sixty = [1, 2, 3, 11, 12, 24, 25, 59, 60, 61, 119, 120, 359, 360, 2_399, 2_400, 7_199, 7_200];
+    let sixty = [1, 2, 3, 11, 12, 24, 25, 59, 60, 61, 119, 120, 359, 360, 1_200, 1_201, 2_399, 2_400, 7_199, 7_200];
     let case = |s: Settings, h: u64, words: &str| {
         score(s, sag(&s, h, 320_000, 12_000_000), format!("f {}, h {h}: {words}", s.f))
     };
