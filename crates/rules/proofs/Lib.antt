@@ -21,4 +21,5 @@ pub mod Within
 pub mod Extremes
 pub mod Types
 pub mod Places
+pub mod Severity
 pub mod Refusals

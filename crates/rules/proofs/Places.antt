@@ -174,17 +174,22 @@ on-column-border f g h i l e = (le-antisymm low (not-less i l e), le-antisymm (n
 
 -- ---- the curve
 
--- THE LAW: the curve value is 0 for h at most 2; else 500 while 5h is at most 2f; else 700 while h is at most f; else 800
+-- THE LAW: the curve value is 0 for h at most 2; else 500 while 5h is at most 2f; else 700 while h is at most f; else 800 while h is at
+-- most 20f; 900 after that
 pub curve-is : (f : ℕ) → 50 ≤ f → (h : ℕ)
     → ((curveOf f h ≡ 0) ↔ (h ≤ 2))
     × ((curveOf f h ≡ 500) ↔ ((2 < h) × (5 * h ≤ 2 * f)))
     × ((curveOf f h ≡ 700) ↔ ((2 * f < 5 * h) × (h ≤ f)))
-    × ((curveOf f h ≡ 800) ↔ (f < h))
+    × ((curveOf f h ≡ 800) ↔ ((f < h) × (h ≤ 20 * f)))
+    × ((curveOf f h ≡ 900) ↔ (20 * f < h))
 curve-is f g h =
     ⊎-elim
     (λ u. ⊎-elim
     (λ v. ⊎-elim
-    (λ w. let e : curveOf f h ≡ 800 = rw (lt-leb h 2 u, lt-leb (5 * h) (2 * f) v, lt-leb h f w) in omega (arith, e))
+    (λ w. ⊎-elim
+    (λ x. let e : curveOf f h ≡ 900 = rw (lt-leb h 2 u, lt-leb (5 * h) (2 * f) v, lt-leb h f w, lt-leb h (20 * f) x) in omega (arith, e))
+    (λ x. let e : curveOf f h ≡ 800 = rw (lt-leb h 2 u, lt-leb (5 * h) (2 * f) v, lt-leb h f w, le-leb h (20 * f) x) in omega (arith, e))
+    (lower (20 * f) h))
     (λ w. let e : curveOf f h ≡ 700 = rw (lt-leb h 2 u, lt-leb (5 * h) (2 * f) v, le-leb h f w) in omega (arith, e))
     (lower f h))
     (λ v. let e : curveOf f h ≡ 500 = rw (lt-leb h 2 u, le-leb (5 * h) (2 * f) v) in omega (arith, e))

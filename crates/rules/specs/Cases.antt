@@ -731,83 +731,91 @@ durations =
     ∷ score house (event 1 7 306 3 320000 200 12000000 4) ⟶ scored 0x4010_0000_0000_0000 0x3f8e_b851_eb85_1eb8 12
     -- C145: f 50, h 300: h = 6f, column 5 (severity 4, energy 0.015)
     ∷ score house (event 1 7 307 3 320000 200 12000000 4) ⟶ scored 0x4010_0000_0000_0000 0x3f8e_b851_eb85_1eb8 13
-    -- C146: f 50, h 1999: below 40f, column 5 (severity 4, energy 0.015)
-    ∷ score house (event 1 7 2006 3 320000 200 12000000 4) ⟶ scored 0x4010_0000_0000_0000 0x3f8e_b851_eb85_1eb8 13
-    -- C147: f 50, h 2000: h = 40f, column 6 (severity 4, energy 0.015)
-    ∷ score house (event 1 7 2007 3 320000 200 12000000 4) ⟶ scored 0x4010_0000_0000_0000 0x3f8e_b851_eb85_1eb8 14
-    -- C148: f 50, h 5999: below 120f, column 6 (severity 4, energy 0.015)
-    ∷ score house (event 1 7 6006 3 320000 200 12000000 4) ⟶ scored 0x4010_0000_0000_0000 0x3f8e_b851_eb85_1eb8 14
-    -- C149: f 50, h 6000: h = 120f, column 7 (severity 4, energy 0.015)
-    ∷ score house (event 1 7 6007 3 320000 200 12000000 4) ⟶ scored 0x4010_0000_0000_0000 0x3f8e_b851_eb85_1eb8 15
-    -- C150: f 60, h 1: below 2, column 0 (severity 0.8, energy 0.012)
+    -- C146: f 50, h 1000: h = 20f, the curve is 800 (severity 4, energy 0.015)
+    ∷ score house (event 1 7 1007 3 320000 200 12000000 4) ⟶ scored 0x4010_0000_0000_0000 0x3f8e_b851_eb85_1eb8 13
+    -- C147: f 50, h 1001: the curve is 900 (severity 8, energy 0.015)
+    ∷ score house (event 1 7 1008 3 320000 200 12000000 4) ⟶ scored 0x4020_0000_0000_0000 0x3f8e_b851_eb85_1eb8 13
+    -- C148: f 50, h 1999: below 40f, column 5 (severity 8, energy 0.015)
+    ∷ score house (event 1 7 2006 3 320000 200 12000000 4) ⟶ scored 0x4020_0000_0000_0000 0x3f8e_b851_eb85_1eb8 13
+    -- C149: f 50, h 2000: h = 40f, column 6 (severity 8, energy 0.015)
+    ∷ score house (event 1 7 2007 3 320000 200 12000000 4) ⟶ scored 0x4020_0000_0000_0000 0x3f8e_b851_eb85_1eb8 14
+    -- C150: f 50, h 5999: below 120f, column 6 (severity 8, energy 0.015)
+    ∷ score house (event 1 7 6006 3 320000 200 12000000 4) ⟶ scored 0x4020_0000_0000_0000 0x3f8e_b851_eb85_1eb8 14
+    -- C151: f 50, h 6000: h = 120f, column 7 (severity 8, energy 0.015)
+    ∷ score house (event 1 7 6007 3 320000 200 12000000 4) ⟶ scored 0x4020_0000_0000_0000 0x3f8e_b851_eb85_1eb8 15
+    -- C152: f 60, h 1: below 2, column 0 (severity 0.8, energy 0.012)
     ∷ score wide (event 1 7 8 3 320000 200 12000000 4) ⟶ scored 0x3fe9_9999_9999_999a 0x3f88_9374_bc6a_7efa 8
-    -- C151: f 60, h 2: column 1; the curve is 0 (severity 0.8, energy 0.012)
+    -- C153: f 60, h 2: column 1; the curve is 0 (severity 0.8, energy 0.012)
     ∷ score wide (event 1 7 9 3 320000 200 12000000 4) ⟶ scored 0x3fe9_9999_9999_999a 0x3f88_9374_bc6a_7efa 9
-    -- C152: f 60, h 3: the curve is 500 (severity 1.6, energy 0.012)
+    -- C154: f 60, h 3: the curve is 500 (severity 1.6, energy 0.012)
     ∷ score wide (event 1 7 10 3 320000 200 12000000 4) ⟶ scored 0x3ff9_9999_9999_999a 0x3f88_9374_bc6a_7efa 9
-    -- C153: f 60, h 11: 5h below f, column 1 (severity 1.6, energy 0.012)
+    -- C155: f 60, h 11: 5h below f, column 1 (severity 1.6, energy 0.012)
     ∷ score wide (event 1 7 18 3 320000 200 12000000 4) ⟶ scored 0x3ff9_9999_9999_999a 0x3f88_9374_bc6a_7efa 9
-    -- C154: f 60, h 12: 5h = f, column 2 (severity 1.6, energy 0.012)
+    -- C156: f 60, h 12: 5h = f, column 2 (severity 1.6, energy 0.012)
     ∷ score wide (event 1 7 19 3 320000 200 12000000 4) ⟶ scored 0x3ff9_9999_9999_999a 0x3f88_9374_bc6a_7efa 10
-    -- C155: f 60, h 24: 5h = 2f, the curve is 500 (severity 1.6, energy 0.012)
+    -- C157: f 60, h 24: 5h = 2f, the curve is 500 (severity 1.6, energy 0.012)
     ∷ score wide (event 1 7 31 3 320000 200 12000000 4) ⟶ scored 0x3ff9_9999_9999_999a 0x3f88_9374_bc6a_7efa 10
-    -- C156: f 60, h 25: the curve is 700 (severity 2.6666666666666665, energy 0.012)
+    -- C158: f 60, h 25: the curve is 700 (severity 2.6666666666666665, energy 0.012)
     ∷ score wide (event 1 7 32 3 320000 200 12000000 4) ⟶ scored 0x4005_5555_5555_5555 0x3f88_9374_bc6a_7efa 10
-    -- C157: f 60, h 59: below f, column 2 (severity 2.6666666666666665, energy 0.012)
+    -- C159: f 60, h 59: below f, column 2 (severity 2.6666666666666665, energy 0.012)
     ∷ score wide (event 1 7 66 3 320000 200 12000000 4) ⟶ scored 0x4005_5555_5555_5555 0x3f88_9374_bc6a_7efa 10
-    -- C158: f 60, h 60: h = f, column 3; the curve is 700 (severity 2.6666666666666665, energy 0.012)
+    -- C160: f 60, h 60: h = f, column 3; the curve is 700 (severity 2.6666666666666665, energy 0.012)
     ∷ score wide (event 1 7 67 3 320000 200 12000000 4) ⟶ scored 0x4005_5555_5555_5555 0x3f88_9374_bc6a_7efa 11
-    -- C159: f 60, h 61: the curve is 800 (severity 4, energy 0.012)
+    -- C161: f 60, h 61: the curve is 800 (severity 4, energy 0.012)
     ∷ score wide (event 1 7 68 3 320000 200 12000000 4) ⟶ scored 0x4010_0000_0000_0000 0x3f88_9374_bc6a_7efa 11
-    -- C160: f 60, h 119: below 2f, column 3 (severity 4, energy 0.012)
+    -- C162: f 60, h 119: below 2f, column 3 (severity 4, energy 0.012)
     ∷ score wide (event 1 7 126 3 320000 200 12000000 4) ⟶ scored 0x4010_0000_0000_0000 0x3f88_9374_bc6a_7efa 11
-    -- C161: f 60, h 120: h = 2f, column 4 (severity 4, energy 0.012)
+    -- C163: f 60, h 120: h = 2f, column 4 (severity 4, energy 0.012)
     ∷ score wide (event 1 7 127 3 320000 200 12000000 4) ⟶ scored 0x4010_0000_0000_0000 0x3f88_9374_bc6a_7efa 12
-    -- C162: f 60, h 359: below 6f, column 4 (severity 4, energy 0.012)
+    -- C164: f 60, h 359: below 6f, column 4 (severity 4, energy 0.012)
     ∷ score wide (event 1 7 366 3 320000 200 12000000 4) ⟶ scored 0x4010_0000_0000_0000 0x3f88_9374_bc6a_7efa 12
-    -- C163: f 60, h 360: h = 6f, column 5 (severity 4, energy 0.012)
+    -- C165: f 60, h 360: h = 6f, column 5 (severity 4, energy 0.012)
     ∷ score wide (event 1 7 367 3 320000 200 12000000 4) ⟶ scored 0x4010_0000_0000_0000 0x3f88_9374_bc6a_7efa 13
-    -- C164: f 60, h 2399: below 40f, column 5 (severity 4, energy 0.012)
-    ∷ score wide (event 1 7 2406 3 320000 200 12000000 4) ⟶ scored 0x4010_0000_0000_0000 0x3f88_9374_bc6a_7efa 13
-    -- C165: f 60, h 2400: h = 40f, column 6 (severity 4, energy 0.012)
-    ∷ score wide (event 1 7 2407 3 320000 200 12000000 4) ⟶ scored 0x4010_0000_0000_0000 0x3f88_9374_bc6a_7efa 14
-    -- C166: f 60, h 7199: below 120f, column 6 (severity 4, energy 0.012)
-    ∷ score wide (event 1 7 7206 3 320000 200 12000000 4) ⟶ scored 0x4010_0000_0000_0000 0x3f88_9374_bc6a_7efa 14
-    -- C167: f 60, h 7200: h = 120f, column 7 (severity 4, energy 0.012)
-    ∷ score wide (event 1 7 7207 3 320000 200 12000000 4) ⟶ scored 0x4010_0000_0000_0000 0x3f88_9374_bc6a_7efa 15
+    -- C166: f 60, h 1200: h = 20f, the curve is 800 (severity 4, energy 0.012)
+    ∷ score wide (event 1 7 1207 3 320000 200 12000000 4) ⟶ scored 0x4010_0000_0000_0000 0x3f88_9374_bc6a_7efa 13
+    -- C167: f 60, h 1201: the curve is 900 (severity 8, energy 0.012)
+    ∷ score wide (event 1 7 1208 3 320000 200 12000000 4) ⟶ scored 0x4020_0000_0000_0000 0x3f88_9374_bc6a_7efa 13
+    -- C168: f 60, h 2399: below 40f, column 5 (severity 8, energy 0.012)
+    ∷ score wide (event 1 7 2406 3 320000 200 12000000 4) ⟶ scored 0x4020_0000_0000_0000 0x3f88_9374_bc6a_7efa 13
+    -- C169: f 60, h 2400: h = 40f, column 6 (severity 8, energy 0.012)
+    ∷ score wide (event 1 7 2407 3 320000 200 12000000 4) ⟶ scored 0x4020_0000_0000_0000 0x3f88_9374_bc6a_7efa 14
+    -- C170: f 60, h 7199: below 120f, column 6 (severity 8, energy 0.012)
+    ∷ score wide (event 1 7 7206 3 320000 200 12000000 4) ⟶ scored 0x4020_0000_0000_0000 0x3f88_9374_bc6a_7efa 14
+    -- C171: f 60, h 7200: h = 120f, column 7 (severity 8, energy 0.012)
+    ∷ score wide (event 1 7 7207 3 320000 200 12000000 4) ⟶ scored 0x4020_0000_0000_0000 0x3f88_9374_bc6a_7efa 15
     ∷ []
 
 -- ---- rows on both sides of every border
 
 depths : List Case
 depths =
-    -- C168: nothing left: row 0 (severity 1, energy 0)
+    -- C172: nothing left: row 0 (severity 1, energy 0)
     score house (event 1 7 9 3 0 0 1 4) ⟶ scored 0x3ff0_0000_0000_0000 0x0000_0000_0000_0000 1
-    -- C169: exactly 10 percent: row 0 (severity 0.9, energy 0)
+    -- C173: exactly 10 percent: row 0 (severity 0.9, energy 0)
     ∷ score house (event 1 7 9 3 80000 100 1 4) ⟶ scored 0x3fec_cccc_cccc_cccd 0x0000_0000_0000_0000 1
-    -- C170: one unit above: row 1 (severity 0.9, energy 0)
+    -- C174: one unit above: row 1 (severity 0.9, energy 0)
     ∷ score house (event 1 7 9 3 80001 100 1 4) ⟶ scored 0x3fec_cccc_cccc_cccd 0x0000_0000_0000_0000 9
-    -- C171: exactly 40 percent: row 1 (severity 0.6, energy 0)
+    -- C175: exactly 40 percent: row 1 (severity 0.6, energy 0)
     ∷ score house (event 1 7 9 3 1280000 400 1 4) ⟶ scored 0x3fe3_3333_3333_3333 0x0000_0000_0000_0000 9
-    -- C172: one unit above: row 2 (severity 0.6, energy 0)
+    -- C176: one unit above: row 2 (severity 0.6, energy 0)
     ∷ score house (event 1 7 9 3 1280001 400 1 4) ⟶ scored 0x3fe3_3333_3333_3333 0x0000_0000_0000_0000 17
-    -- C173: exactly 70 percent: row 2 (severity 0.3, energy 0)
+    -- C177: exactly 70 percent: row 2 (severity 0.3, energy 0)
     ∷ score house (event 1 7 9 3 3920000 700 1 4) ⟶ scored 0x3fd3_3333_3333_3333 0x0000_0000_0000_0000 17
-    -- C174: one unit above: row 3 (severity 0.3, energy 0)
+    -- C178: one unit above: row 3 (severity 0.3, energy 0)
     ∷ score house (event 1 7 9 3 3920001 700 1 4) ⟶ scored 0x3fd3_3333_3333_3333 0x0000_0000_0000_0000 25
-    -- C175: exactly 85 percent: row 3 (severity 0.15, energy 0)
+    -- C179: exactly 85 percent: row 3 (severity 0.15, energy 0)
     ∷ score house (event 1 7 9 3 5780000 850 1 4) ⟶ scored 0x3fc3_3333_3333_3333 0x0000_0000_0000_0000 25
-    -- C176: one unit above: row 4 (severity 0.15, energy 0)
+    -- C180: one unit above: row 4 (severity 0.15, energy 0)
     ∷ score house (event 1 7 9 3 5780001 850 1 4) ⟶ scored 0x3fc3_3333_3333_3333 0x0000_0000_0000_0000 33
-    -- C177: one unit below the sag threshold: row 4 (severity 0.101, energy 0)
+    -- C181: one unit below the sag threshold: row 4 (severity 0.101, energy 0)
     ∷ score house (event 1 7 9 3 6479999 899 1 4) ⟶ scored 0x3fb9_db22_d0e5_6042 0x0000_0000_0000_0000 33
-    -- C178: 10 percent is an S of 100200.1, and the whole number below it in row 0 (severity 0.901, energy 0)
+    -- C182: 10 percent is an S of 100200.1, and the whole number below it in row 0 (severity 0.901, energy 0)
     ∷ score ten (event 1 7 9 3 100200 99 1 4) ⟶ scored 0x3fec_d4fd_f3b6_45a2 0x0000_0000_0000_0000 1
-    -- C179: the one above it in row 1 (severity 0.9, energy 0)
+    -- C183: the one above it in row 1 (severity 0.9, energy 0)
     ∷ score ten (event 1 7 9 3 100201 100 1 4) ⟶ scored 0x3fec_cccc_cccc_cccd 0x0000_0000_0000_0000 9
-    -- C180: 70 percent is an S of 4909804.9, and the whole number below it in row 2 (severity 0.301, energy 0)
+    -- C184: 70 percent is an S of 4909804.9, and the whole number below it in row 2 (severity 0.301, energy 0)
     ∷ score ten (event 1 7 9 3 4909804 699 1 4) ⟶ scored 0x3fd3_4395_8106_24dd 0x0000_0000_0000_0000 17
-    -- C181: the one above it in row 3 (severity 0.3, energy 0)
+    -- C185: the one above it in row 3 (severity 0.3, energy 0)
     ∷ score ten (event 1 7 9 3 4909805 700 1 4) ⟶ scored 0x3fd3_3333_3333_3333 0x0000_0000_0000_0000 25
     ∷ []
 
@@ -815,112 +823,112 @@ depths =
 
 energies : List Case
 energies =
-    -- C182: no shortfall (severity 1, energy 0)
+    -- C186: no shortfall (severity 1, energy 0)
     score house (event 1 7 10 3 2000000 500 0 4) ⟶ scored 0x3ff0_0000_0000_0000 0x0000_0000_0000_0000 17
-    -- C183: one unit short of a millisecond: 0 (severity 1, energy 0)
+    -- C187: one unit short of a millisecond: 0 (severity 1, energy 0)
     ∷ score house (event 1 7 10 3 2000000 500 799999 4) ⟶ scored 0x3ff0_0000_0000_0000 0x0000_0000_0000_0000 17
-    -- C184: a millisecond (severity 1, energy 0.001)
+    -- C188: a millisecond (severity 1, energy 0.001)
     ∷ score house (event 1 7 10 3 2000000 500 800000 4) ⟶ scored 0x3ff0_0000_0000_0000 0x3f50_624d_d2f1_a9fc 17
-    -- C185: one unit short of two: 1 (severity 1, energy 0.001)
+    -- C189: one unit short of two: 1 (severity 1, energy 0.001)
     ∷ score house (event 1 7 10 3 2000000 500 1599999 4) ⟶ scored 0x3ff0_0000_0000_0000 0x3f50_624d_d2f1_a9fc 17
-    -- C186: the most that three half-cycles can lack (severity 1, energy 0.09)
+    -- C190: the most that three half-cycles can lack (severity 1, energy 0.09)
     ∷ score house (event 1 7 10 3 2000000 500 72000000 4) ⟶ scored 0x3ff0_0000_0000_0000 0x3fb7_0a3d_70a3_d70a 17
-    -- C187: f 60: one unit short of a millisecond (severity 1, energy 0)
+    -- C191: f 60: one unit short of a millisecond (severity 1, energy 0)
     ∷ score wide (event 1 7 10 3 2000000 500 959999 4) ⟶ scored 0x3ff0_0000_0000_0000 0x0000_0000_0000_0000 17
-    -- C188: f 60: a millisecond (severity 1, energy 0.001)
+    -- C192: f 60: a millisecond (severity 1, energy 0.001)
     ∷ score wide (event 1 7 10 3 2000000 500 960000 4) ⟶ scored 0x3ff0_0000_0000_0000 0x3f50_624d_d2f1_a9fc 17
-    -- C189: N 10, R 1001, f 60: 7 milliseconds are 8416808.4, the whole number below is 6 (severity 1.108, energy 0.006)
+    -- C193: N 10, R 1001, f 60: 7 milliseconds are 8416808.4, the whole number below is 6 (severity 1.108, energy 0.006)
     ∷ score ten (event 1 7 10 3 2000000 446 8416808 4) ⟶ scored 0x3ff1_ba5e_353f_7cee 0x3f78_9374_bc6a_7efa 17
-    -- C190: the one above is 7 (severity 1.108, energy 0.007)
+    -- C194: the one above is 7 (severity 1.108, energy 0.007)
     ∷ score ten (event 1 7 10 3 2000000 446 8416809 4) ⟶ scored 0x3ff1_ba5e_353f_7cee 0x3f7c_ac08_3126_e979 17
-    -- C191: the longest and deepest sag of all: 3000 s (severity 5, energy 3000)
-    ∷ score house (event 1 0 100000 3 0 0 2400000000000 0) ⟶ scored 0x4014_0000_0000_0000 0x40a7_7000_0000_0000 7
+    -- C195: the longest and deepest sag of all: 3000 s (severity 10, energy 3000)
+    ∷ score house (event 1 0 100000 3 0 0 2400000000000 0) ⟶ scored 0x4024_0000_0000_0000 0x40a7_7000_0000_0000 7
     ∷ []
 
 -- ---- what is not an event, each condition broken by one; the order of reasons
 
 not-events : List Case
 not-events =
-    -- C192: kind 0
+    -- C196: kind 0
     score house (event 0 7 9 3 20000 50 0 0) ⟶ unscored 5 40
-    -- C193: kind 1, and all else as it must be (severity 0.5, energy 0.015)
+    -- C197: kind 1, and all else as it must be (severity 0.5, energy 0.015)
     ∷ score house (event 1 30 32 3 2000000 500 12000000 4) ⟶ scored 0x3fe0_0000_0000_0000 0x3f8e_b851_eb85_1eb8 17
-    -- C194: kind 2: not a sag
+    -- C198: kind 2: not a sag
     ∷ score house (event 2 7 9 3 20000 50 0 0) ⟶ unscored 4 40
-    -- C195: kind 3: not a sag
+    -- C199: kind 3: not a sag
     ∷ score house (event 3 7 9 3 9680001 1100 0 0) ⟶ unscored 4 40
-    -- C196: kind 4
+    -- C200: kind 4
     ∷ score house (event 4 7 9 3 9680001 1100 0 0) ⟶ unscored 5 40
-    -- C197: start one below end (severity 0.5, energy 0.015)
+    -- C201: start one below end (severity 0.5, energy 0.015)
     ∷ score house (event 1 31 32 3 2000000 500 12000000 4) ⟶ scored 0x3fe0_0000_0000_0000 0x3f8e_b851_eb85_1eb8 16
-    -- C198: start at end
+    -- C202: start at end
     ∷ score house (event 1 32 32 3 2000000 500 0 4) ⟶ unscored 5 40
-    -- C199: start above end
+    -- C203: start above end
     ∷ score house (event 1 33 32 3 2000000 500 0 4) ⟶ unscored 5 40
-    -- C200: start at end, of an interruption
+    -- C204: start at end, of an interruption
     ∷ score house (event 2 9 9 3 20000 50 0 0) ⟶ unscored 5 40
-    -- C201: end 100,000 (severity 0.5, energy 0.015)
+    -- C205: end 100,000 (severity 0.5, energy 0.015)
     ∷ score house (event 1 99998 100000 3 2000000 500 12000000 4)
     ⟶ scored 0x3fe0_0000_0000_0000 0x3f8e_b851_eb85_1eb8 17
-    -- C202: end 100,001
+    -- C206: end 100,001
     ∷ score house (event 1 99999 100001 3 2000000 500 12000000 4) ⟶ unscored 5 40
-    -- C203: seen 4
+    -- C207: seen 4
     ∷ score house (event 1 30 32 4 2000000 500 12000000 4) ⟶ unscored 5 40
-    -- C204: retained one more than that of the extreme
+    -- C208: retained one more than that of the extreme
     ∷ score house (event 1 30 32 3 2000000 501 12000000 4) ⟶ unscored 5 40
-    -- C205: one less
+    -- C209: one less
     ∷ score house (event 1 30 32 3 2000000 499 12000000 4) ⟶ unscored 5 40
-    -- C206: one unit of S below 50 percent: retained 499 (severity 0.501, energy 0.015)
+    -- C210: one unit of S below 50 percent: retained 499 (severity 0.501, energy 0.015)
     ∷ score house (event 1 30 32 3 1999999 499 12000000 4) ⟶ scored 0x3fe0_0831_26e9_78d5 0x3f8e_b851_eb85_1eb8 17
-    -- C207: and not 500
+    -- C211: and not 500
     ∷ score house (event 1 30 32 3 1999999 500 12000000 4) ⟶ unscored 5 40
-    -- C208: the smallest S with retained 1 (severity 0.999, energy 0.015)
+    -- C212: the smallest S with retained 1 (severity 0.999, energy 0.015)
     ∷ score house (event 1 30 32 3 8 1 12000000 4) ⟶ scored 0x3fef_f7ce_d916_872b 0x3f8e_b851_eb85_1eb8 1
-    -- C209: one unit less: retained 0 (severity 1, energy 0.015)
+    -- C213: one unit less: retained 0 (severity 1, energy 0.015)
     ∷ score house (event 1 30 32 3 7 0 12000000 4) ⟶ scored 0x3ff0_0000_0000_0000 0x3f8e_b851_eb85_1eb8 1
-    -- C210: a sag's extreme one unit below the threshold (severity 0.101, energy 0.015)
+    -- C214: a sag's extreme one unit below the threshold (severity 0.101, energy 0.015)
     ∷ score house (event 1 30 32 3 6479999 899 12000000 4) ⟶ scored 0x3fb9_db22_d0e5_6042 0x3f8e_b851_eb85_1eb8 33
-    -- C211: on it
+    -- C215: on it
     ∷ score house (event 1 30 32 3 6480000 900 12000000 4) ⟶ unscored 5 40
-    -- C212: a sag's shortfall 3 x N x R x R x h (severity 0.5, energy 0.06)
+    -- C216: a sag's shortfall 3 x N x R x R x h (severity 0.5, energy 0.06)
     ∷ score house (event 1 30 32 3 2000000 500 48000000 4) ⟶ scored 0x3fe0_0000_0000_0000 0x3fae_b851_eb85_1eb8 17
-    -- C213: one more
+    -- C217: one more
     ∷ score house (event 1 30 32 3 2000000 500 48000001 4) ⟶ unscored 5 40
-    -- C214: type 6 (severity 0.5, energy 0.015)
+    -- C218: type 6 (severity 0.5, energy 0.015)
     ∷ score house (event 1 30 32 3 2000000 500 12000000 6) ⟶ scored 0x3fe0_0000_0000_0000 0x3f8e_b851_eb85_1eb8 17
-    -- C215: type 7
+    -- C219: type 7
     ∷ score house (event 1 30 32 3 2000000 500 12000000 7) ⟶ unscored 5 40
-    -- C216: a swell with a shortfall
+    -- C220: a swell with a shortfall
     ∷ score house (event 3 7 9 3 9680001 1100 1 0) ⟶ unscored 5 40
-    -- C217: a swell with a type
+    -- C221: a swell with a type
     ∷ score house (event 3 7 9 3 9680001 1100 0 1) ⟶ unscored 5 40
-    -- C218: an interruption with a shortfall
+    -- C222: an interruption with a shortfall
     ∷ score house (event 2 7 9 3 20000 50 1 0) ⟶ unscored 5 40
-    -- C219: an interruption with a type
+    -- C223: an interruption with a type
     ∷ score house (event 2 7 9 3 20000 50 0 1) ⟶ unscored 5 40
-    -- C220: extreme N x 10,000,000,000
+    -- C224: extreme N x 10,000,000,000
     ∷ score high (event 3 7 9 3 80000000000 2000 0 0) ⟶ unscored 4 40
-    -- C221: one more
+    -- C225: one more
     ∷ score high (event 3 7 9 3 80000000001 2000 0 0) ⟶ unscored 5 40
-    -- C222: only the start unseen
+    -- C226: only the start unseen
     ∷ score house (event 1 30 32 2 2000000 500 12000000 4) ⟶ unscored 1 40
-    -- C223: only the end unseen
+    -- C227: only the end unseen
     ∷ score house (event 1 30 32 1 2000000 500 12000000 4) ⟶ unscored 2 40
-    -- C224: both unseen
+    -- C228: both unseen
     ∷ score house (event 1 30 32 0 2000000 500 12000000 4) ⟶ unscored 3 40
-    -- C225: a swell with both unseen: not a sag
+    -- C229: a swell with both unseen: not a sag
     ∷ score house (event 3 7 9 0 9680001 1100 0 0) ⟶ unscored 4 40
-    -- C226: an interruption with its end unseen: not a sag
+    -- C230: an interruption with its end unseen: not a sag
     ∷ score house (event 2 7 9 1 20000 50 0 0) ⟶ unscored 4 40
-    -- C227: a swell with a type and both unseen: not an event
+    -- C231: a swell with a type and both unseen: not an event
     ∷ score house (event 3 7 9 0 9680001 1100 0 1) ⟶ unscored 5 40
-    -- C228: a sag of type 7, its start unseen: not an event
+    -- C232: a sag of type 7, its start unseen: not an event
     ∷ score house (event 1 30 32 2 2000000 500 12000000 7) ⟶ unscored 5 40
-    -- C229: N 9 and kind 0: settings bad
+    -- C233: N 9 and kind 0: settings bad
     ∷ score (settings 9 1000 50 90 10 110 2) (event 0 30 32 3 2000000 500 12000000 4) ⟶ unscored 6 40
-    -- C230: N 9 and a swell: settings bad
+    -- C234: N 9 and a swell: settings bad
     ∷ score (settings 9 1000 50 90 10 110 2) (event 3 7 9 0 9680001 1100 0 0) ⟶ unscored 6 40
-    -- C231: N 9 and a sag with both unseen: settings bad
+    -- C235: N 9 and a sag with both unseen: settings bad
     ∷ score (settings 9 1000 50 90 10 110 2) (event 1 30 32 0 2000000 500 12000000 4) ⟶ unscored 6 40
     ∷ []
 
@@ -928,69 +936,69 @@ not-events =
 
 making : List Case
 making =
-    -- C232: each setting at the lower end of its range: a fresh table
+    -- C236: each setting at the lower end of its range: a fresh table
     fresh (settings 8 1000 50 50 1 105 0) ⟶ taken (site (blank (settings 8 1000 50 50 1 105 0)))
-    -- C233: each at the upper end
+    -- C237: each at the upper end
     ∷ fresh (settings 512 50000 60 95 20 150 5) ⟶ taken (site (blank (settings 512 50000 60 95 20 150 5)))
-    -- C234: within
+    -- C238: within
     ∷ fresh (settings 10 1000 50 51 10 110 2) ⟶ taken (site (blank (settings 10 1000 50 51 10 110 2)))
-    -- C235: N 7
+    -- C239: N 7
     ∷ fresh (settings 7 1000 50 50 1 105 0) ⟶ refused 1 1 (site (blank (settings 0 0 0 0 0 0 0)))
-    -- C236: N 6, even
+    -- C240: N 6, even
     ∷ fresh (settings 6 1000 50 50 1 105 0) ⟶ refused 1 1 (site (blank (settings 0 0 0 0 0 0 0)))
-    -- C237: N 9, odd
+    -- C241: N 9, odd
     ∷ fresh (settings 9 1000 50 90 10 110 2) ⟶ refused 1 1 (site (blank (settings 0 0 0 0 0 0 0)))
-    -- C238: N 511, odd
+    -- C242: N 511, odd
     ∷ fresh (settings 511 1000 50 90 10 110 2) ⟶ refused 1 1 (site (blank (settings 0 0 0 0 0 0 0)))
-    -- C239: N 513
+    -- C243: N 513
     ∷ fresh (settings 513 50000 60 95 20 150 5) ⟶ refused 1 1 (site (blank (settings 0 0 0 0 0 0 0)))
-    -- C240: N 514, even
+    -- C244: N 514, even
     ∷ fresh (settings 514 50000 60 95 20 150 5) ⟶ refused 1 1 (site (blank (settings 0 0 0 0 0 0 0)))
-    -- C241: N 0
+    -- C245: N 0
     ∷ fresh (settings 0 1000 50 90 10 110 2) ⟶ refused 1 1 (site (blank (settings 0 0 0 0 0 0 0)))
-    -- C242: R 999
+    -- C246: R 999
     ∷ fresh (settings 8 999 50 50 1 105 0) ⟶ refused 1 2 (site (blank (settings 0 0 0 0 0 0 0)))
-    -- C243: R 50,001
+    -- C247: R 50,001
     ∷ fresh (settings 512 50001 60 95 20 150 5) ⟶ refused 1 2 (site (blank (settings 0 0 0 0 0 0 0)))
-    -- C244: f 49
+    -- C248: f 49
     ∷ fresh (settings 8 1000 49 90 10 110 2) ⟶ refused 1 3 (site (blank (settings 0 0 0 0 0 0 0)))
-    -- C245: f 51
+    -- C249: f 51
     ∷ fresh (settings 8 1000 51 90 10 110 2) ⟶ refused 1 3 (site (blank (settings 0 0 0 0 0 0 0)))
-    -- C246: f 55
+    -- C250: f 55
     ∷ fresh (settings 8 1000 55 90 10 110 2) ⟶ refused 1 3 (site (blank (settings 0 0 0 0 0 0 0)))
-    -- C247: f 59
+    -- C251: f 59
     ∷ fresh (settings 8 1000 59 90 10 110 2) ⟶ refused 1 3 (site (blank (settings 0 0 0 0 0 0 0)))
-    -- C248: f 61
+    -- C252: f 61
     ∷ fresh (settings 8 1000 61 90 10 110 2) ⟶ refused 1 3 (site (blank (settings 0 0 0 0 0 0 0)))
-    -- C249: sag threshold 49
+    -- C253: sag threshold 49
     ∷ fresh (settings 8 1000 50 49 1 105 0) ⟶ refused 1 4 (site (blank (settings 0 0 0 0 0 0 0)))
-    -- C250: sag threshold 96
+    -- C254: sag threshold 96
     ∷ fresh (settings 512 50000 60 96 20 150 5) ⟶ refused 1 4 (site (blank (settings 0 0 0 0 0 0 0)))
-    -- C251: interruption threshold 0
+    -- C255: interruption threshold 0
     ∷ fresh (settings 8 1000 50 50 0 105 0) ⟶ refused 1 5 (site (blank (settings 0 0 0 0 0 0 0)))
-    -- C252: interruption threshold 21
+    -- C256: interruption threshold 21
     ∷ fresh (settings 512 50000 60 95 21 150 5) ⟶ refused 1 5 (site (blank (settings 0 0 0 0 0 0 0)))
-    -- C253: swell threshold 104
+    -- C257: swell threshold 104
     ∷ fresh (settings 8 1000 50 50 1 104 0) ⟶ refused 1 6 (site (blank (settings 0 0 0 0 0 0 0)))
-    -- C254: swell threshold 151
+    -- C258: swell threshold 151
     ∷ fresh (settings 512 50000 60 95 20 151 5) ⟶ refused 1 6 (site (blank (settings 0 0 0 0 0 0 0)))
-    -- C255: hysteresis 6
+    -- C259: hysteresis 6
     ∷ fresh (settings 512 50000 60 95 20 150 6) ⟶ refused 1 7 (site (blank (settings 0 0 0 0 0 0 0)))
-    -- C256: N and R bad: the first is told
+    -- C260: N and R bad: the first is told
     ∷ fresh (settings 513 999 50 90 10 110 2) ⟶ refused 1 1 (site (blank (settings 0 0 0 0 0 0 0)))
-    -- C257: R and f bad
+    -- C261: R and f bad
     ∷ fresh (settings 8 50001 55 90 10 110 2) ⟶ refused 1 2 (site (blank (settings 0 0 0 0 0 0 0)))
-    -- C258: R and hysteresis bad
+    -- C262: R and hysteresis bad
     ∷ fresh (settings 8 999 50 90 10 110 6) ⟶ refused 1 2 (site (blank (settings 0 0 0 0 0 0 0)))
-    -- C259: f and sag threshold bad
+    -- C263: f and sag threshold bad
     ∷ fresh (settings 8 1000 55 96 10 110 2) ⟶ refused 1 3 (site (blank (settings 0 0 0 0 0 0 0)))
-    -- C260: sag and interruption threshold bad
+    -- C264: sag and interruption threshold bad
     ∷ fresh (settings 8 1000 50 49 21 110 2) ⟶ refused 1 4 (site (blank (settings 0 0 0 0 0 0 0)))
-    -- C261: interruption and swell threshold bad
+    -- C265: interruption and swell threshold bad
     ∷ fresh (settings 8 1000 50 90 0 104 2) ⟶ refused 1 5 (site (blank (settings 0 0 0 0 0 0 0)))
-    -- C262: swell threshold and hysteresis bad
+    -- C266: swell threshold and hysteresis bad
     ∷ fresh (settings 8 1000 50 90 10 151 6) ⟶ refused 1 6 (site (blank (settings 0 0 0 0 0 0 0)))
-    -- C263: all bad
+    -- C267: all bad
     ∷ fresh (settings 0 0 0 0 0 0 9) ⟶ refused 1 1 (site (blank (settings 0 0 0 0 0 0 0)))
     ∷ []
 
@@ -998,67 +1006,67 @@ making =
 
 sound : List Case
 sound =
-    -- C264: each number as large as it may be beside the total: sound
+    -- C268: each number as large as it may be beside the total: sound
     add (table house 2 1 1 0 (put 17 1 none) 1 2 2 2 48000000) (even 2 1000)
     ⟶ taken (site (table house 3 2 1 0 (put 17 1 none) 1 2 2 2 48000000))
-    -- C265: two interruptions beside one sag: sound
+    -- C269: two interruptions beside one sag: sound
     ∷ add (table house 2 1 1 0 (put 17 1 none) 0 1 2 2 48000000) (even 2 1000)
     ⟶ taken (site (table house 3 2 1 0 (put 17 1 none) 0 1 2 2 48000000))
-    -- C266: and beside none: sound, since no condition speaks of both
+    -- C270: and beside none: sound, since no condition speaks of both
     ∷ add (table house 2 1 1 0 none 0 0 2 2 48000000) (even 2 1000)
     ⟶ taken (site (table house 3 2 1 0 none 0 0 2 2 48000000))
-    -- C267: its settings bad: f 51
+    -- C271: its settings bad: f 51
     ∷ add (table (settings 8 1000 51 90 10 110 2) 2 1 1 0 (put 17 1 none) 1 2 2 2 48000000) (even 2 1000)
     ⟶ refused 9 0 (site (table (settings 8 1000 51 90 10 110 2) 2 1 1 0 (put 17 1 none) 1 2 2 2 48000000))
-    -- C268: a healthy half-cycle too few
+    -- C272: a healthy half-cycle too few
     ∷ add (table house 2 0 1 0 (put 17 1 none) 1 2 2 2 48000000) (even 2 1000)
     ⟶ refused 9 0 (site (table house 2 0 1 0 (put 17 1 none) 1 2 2 2 48000000))
-    -- C269: a disturbed half-cycle too many
+    -- C273: a disturbed half-cycle too many
     ∷ add (table house 2 1 2 0 (put 17 1 none) 1 2 2 2 48000000) (even 2 1000)
     ⟶ refused 9 0 (site (table house 2 1 2 0 (put 17 1 none) 1 2 2 2 48000000))
-    -- C270: an unknown half-cycle too many
+    -- C274: an unknown half-cycle too many
     ∷ add (table house 2 1 1 1 (put 17 1 none) 1 2 2 2 48000000) (even 2 1000)
     ⟶ refused 9 0 (site (table house 2 1 1 1 (put 17 1 none) 1 2 2 2 48000000))
-    -- C271: a total one above its parts
+    -- C275: a total one above its parts
     ∷ add (table house 3 1 1 0 (put 17 1 none) 1 2 2 2 48000000) (even 2 1000)
     ⟶ refused 9 0 (site (table house 3 1 1 0 (put 17 1 none) 1 2 2 2 48000000))
-    -- C272: a sag too many in cell 0
+    -- C276: a sag too many in cell 0
     ∷ add (table house 2 1 1 0 (put 17 1 (put 0 1 none)) 1 2 2 2 48000000) (even 2 1000)
     ⟶ refused 9 0 (site (table house 2 1 1 0 (put 17 1 (put 0 1 none)) 1 2 2 2 48000000))
-    -- C273: a sag too many in cell 39
+    -- C277: a sag too many in cell 39
     ∷ add (table house 2 1 1 0 (put 39 1 (put 17 1 none)) 1 2 2 2 48000000) (even 2 1000)
     ⟶ refused 9 0 (site (table house 2 1 1 0 (put 39 1 (put 17 1 none)) 1 2 2 2 48000000))
-    -- C274: an unplaced sag too few
+    -- C278: an unplaced sag too few
     ∷ add (table house 2 1 1 0 (put 17 1 none) 0 2 2 2 48000000) (even 2 1000)
     ⟶ refused 9 0 (site (table house 2 1 1 0 (put 17 1 none) 0 2 2 2 48000000))
-    -- C275: sags one below cells and unplaced
+    -- C279: sags one below cells and unplaced
     ∷ add (table house 2 1 1 0 (put 17 1 none) 1 1 2 2 48000000) (even 2 1000)
     ⟶ refused 9 0 (site (table house 2 1 1 0 (put 17 1 none) 1 1 2 2 48000000))
-    -- C276: sags one above the total
+    -- C280: sags one above the total
     ∷ add (table house 2 1 1 0 (put 17 1 none) 2 3 2 2 48000000) (even 2 1000)
     ⟶ refused 9 0 (site (table house 2 1 1 0 (put 17 1 none) 2 3 2 2 48000000))
-    -- C277: interruptions one above the total
+    -- C281: interruptions one above the total
     ∷ add (table house 2 1 1 0 (put 17 1 none) 1 2 3 2 48000000) (even 2 1000)
     ⟶ refused 9 0 (site (table house 2 1 1 0 (put 17 1 none) 1 2 3 2 48000000))
-    -- C278: swells one above the total
+    -- C282: swells one above the total
     ∷ add (table house 2 1 1 0 (put 17 1 none) 1 2 2 3 48000000) (even 2 1000)
     ⟶ refused 9 0 (site (table house 2 1 1 0 (put 17 1 none) 1 2 2 3 48000000))
-    -- C279: shortfall one above 3 x N x R x R x total
+    -- C283: shortfall one above 3 x N x R x R x total
     ∷ add (table house 2 1 1 0 (put 17 1 none) 1 2 2 2 48000001) (even 2 1000)
     ⟶ refused 9 0 (site (table house 2 1 1 0 (put 17 1 none) 1 2 2 2 48000001))
-    -- C280: N 10, R 1001: shortfall on its bound
+    -- C284: N 10, R 1001: shortfall on its bound
     ∷ add (table ten 2 1 1 0 (put 17 1 none) 1 2 2 2 60120060) (alike 10 1001 1001 1001)
     ⟶ taken (site (table ten 3 2 1 0 (put 17 1 none) 1 2 2 2 60120060))
-    -- C281: one above
+    -- C285: one above
     ∷ add (table ten 2 1 1 0 (put 17 1 none) 1 2 2 2 60120061) (alike 10 1001 1001 1001)
     ⟶ refused 9 0 (site (table ten 2 1 1 0 (put 17 1 none) 1 2 2 2 60120061))
-    -- C282: room for one half-cycle more: filled to 4,000,000
+    -- C286: room for one half-cycle more: filled to 4,000,000
     ∷ add (healthyOnly 3999999) (even 2 1000) ⟶ taken (site (healthyOnly 4000000))
-    -- C283: a total of 4,000,000 is sound, and full
+    -- C287: a total of 4,000,000 is sound, and full
     ∷ add (healthyOnly 4000000) (even 2 1000) ⟶ refused 8 0 (site (healthyOnly 4000000))
-    -- C284: a total of 4,000,001 is unsound
+    -- C288: a total of 4,000,001 is unsound
     ∷ add (healthyOnly 4000001) (even 2 1000) ⟶ refused 9 0 (site (healthyOnly 4000001))
-    -- C285: a table of zeros is unsound
+    -- C289: a table of zeros is unsound
     ∷ add (blank (settings 0 0 0 0 0 0 0)) (even 2 1000) ⟶ refused 9 0 (site (blank (settings 0 0 0 0 0 0 0)))
     ∷ []
 
@@ -1066,30 +1074,30 @@ sound =
 
 growing : List Case
 growing =
-    -- C286: each number of the table its own, and something of everything added
+    -- C290: each number of the table its own, and something of everything added
     add various (set (even 1 500 ++ even 2 1000 ++ even 2 0 ++ even 2 1000 ++ uneven 1 1000 1300 1000 ++ even 3 1000) 110 lost)
     ⟶ taken (site (table house 10022 5005 3007 2010 (put 1 103 (rising 40 101)) 58 4879 612 714 58234567))
-    -- C287: and a calm recording: only total and healthy grow
+    -- C291: and a calm recording: only total and healthy grow
     ∷ add various (even 4 1000)
     ⟶ taken (site (table house 10015 5006 3001 2008 (rising 40 101) 57 4877 611 713 1234567))
-    -- C288: two sags in two cells, of different rows and columns
+    -- C292: two sags in two cells, of different rows and columns
     ∷ add (blank house) (even 2 1000 ++ uneven 2 1000 899 1000 ++ even 1 1000 ++ uneven 3 1000 1000 100 ++ even 2 1000)
     ⟶ taken (site (table house 9 4 5 0 (put 32 1 (put 1 1 none)) 0 2 0 0 25294392))
-    -- C289: f 60, hysteresis 5: a sag with its cell, and one whose end is unseen
+    -- C293: f 60, hysteresis 5: a sag with its cell, and one whose end is unseen
     ∷ add (blank wide) (even 2 1000 ++ uneven 1 300 450 600 ++ even 2 1000 ++ uneven 1 300 450 600 ++ even 1 1000)
     ⟶ taken (site (table wide 6 2 4 0 (put 25 1 none) 1 2 0 0 27320000))
-    -- C290: N 10, R 1001
+    -- C294: N 10, R 1001
     ∷ add (blank ten) (alike 10 1001 1001 1001 ++ alike 5 300 450 600 ++ alike 10 1001 1001 1001 ++ alike 5 300 450 600
     ++ alike 5 1001 1001 1001)
     ⟶ taken (site (table ten 6 2 4 0 (put 25 1 none) 1 2 0 0 47070060))
-    -- C291: sines
+    -- C295: sines
     ∷ add (blank house) (sines 1000 1000 1000 ++ sines 500 800 1100 ++ sines 1000 1000 1000)
     ⟶ taken (site (table house 5 2 3 0 (put 17 1 none) 0 1 0 0 14887106))
-    -- C292: ten half-cycles fill the table exactly
+    -- C296: ten half-cycles fill the table exactly
     ∷ add (healthyOnly 3999990) (set (even 1 500 ++ even 2 1000 ++ even 2 0 ++ even 2 1000 ++ uneven 1 1000 1300 1000
     ++ even 3 1000) 110 lost)
     ⟶ taken (site (table house 4000000 3999992 6 2 (put 1 1 none) 1 2 1 1 57000000))
-    -- C293: there is room for nine, not for ten
+    -- C297: there is room for nine, not for ten
     ∷ add (healthyOnly 3999991) (set (even 1 500 ++ even 2 1000 ++ even 2 0 ++ even 2 1000 ++ uneven 1 1000 1300 1000
     ++ even 3 1000) 110 lost)
     ⟶ refused 8 9 (site (healthyOnly 3999991))
@@ -1099,59 +1107,59 @@ growing =
 
 lengths : List Case
 lengths =
-    -- C294: no samples: 3
+    -- C298: no samples: 3
     list house 9 [] ⟶ refused 3 0 (run (nines 9))
-    -- C295: one sample: 2 before 3
+    -- C299: one sample: 2 before 3
     ∷ list house 9 (pos 1000 ∷ []) ⟶ refused 2 0 (run (nines 9))
-    -- C296: two samples: 2 before 3
+    -- C300: two samples: 2 before 3
     ∷ list house 9 (pos 1000 ∷ pos 1000 ∷ []) ⟶ refused 2 0 (run (nines 9))
-    -- C297: 8 samples per channel and one more: 2
+    -- C301: 8 samples per channel and one more: 2
     ∷ list house 9 (even 2 1000 ++ pos 1000 ∷ []) ⟶ refused 2 0 (run (nines 9))
-    -- C298: and two more: 2
+    -- C302: and two more: 2
     ∷ list house 9 (even 2 1000 ++ pos 1000 ∷ pos 1000 ∷ []) ⟶ refused 2 0 (run (nines 9))
-    -- C299: 4 samples per channel, a multiple of N/2: 3
+    -- C303: 4 samples per channel, a multiple of N/2: 3
     ∷ list house 9 (even 1 1000) ⟶ refused 3 0 (run (nines 9))
-    -- C300: 7: 3 before 4
+    -- C304: 7: 3 before 4
     ∷ list house 9 (alike 7 1000 1000 1000) ⟶ refused 3 0 (run (nines 9))
-    -- C301: 8: one half-cycle
+    -- C305: 8: one half-cycle
     ∷ list house 9 (even 2 1000) ⟶ events 0 (run (nines 9))
-    -- C302: 9: 4
+    -- C306: 9: 4
     ∷ list house 9 (alike 9 1000 1000 1000) ⟶ refused 4 0 (run (nines 9))
-    -- C303: 11: 4
+    -- C307: 11: 4
     ∷ list house 9 (alike 11 1000 1000 1000) ⟶ refused 4 0 (run (nines 9))
-    -- C304: 12: two half-cycles
+    -- C308: 12: two half-cycles
     ∷ list house 9 (even 3 1000) ⟶ events 0 (run (nines 9))
-    -- C305: added, no samples: 3
+    -- C309: added, no samples: 3
     ∷ add various [] ⟶ refused 3 0 (site various)
-    -- C306: added, one sample: 2 before 3
+    -- C310: added, one sample: 2 before 3
     ∷ add various (pos 1000 ∷ []) ⟶ refused 2 0 (site various)
-    -- C307: added, two samples: 2 before 3
+    -- C311: added, two samples: 2 before 3
     ∷ add various (pos 1000 ∷ pos 1000 ∷ []) ⟶ refused 2 0 (site various)
-    -- C308: added, 8 samples per channel and one more: 2
+    -- C312: added, 8 samples per channel and one more: 2
     ∷ add various (even 2 1000 ++ pos 1000 ∷ []) ⟶ refused 2 0 (site various)
-    -- C309: added, and two more: 2
+    -- C313: added, and two more: 2
     ∷ add various (even 2 1000 ++ pos 1000 ∷ pos 1000 ∷ []) ⟶ refused 2 0 (site various)
-    -- C310: added, 4 samples per channel, a multiple of N/2: 3
+    -- C314: added, 4 samples per channel, a multiple of N/2: 3
     ∷ add various (even 1 1000) ⟶ refused 3 0 (site various)
-    -- C311: added, 7: 3 before 4
+    -- C315: added, 7: 3 before 4
     ∷ add various (alike 7 1000 1000 1000) ⟶ refused 3 0 (site various)
-    -- C312: added, 8: one half-cycle
+    -- C316: added, 8: one half-cycle
     ∷ add various (even 2 1000)
     ⟶ taken (site (table house 10013 5004 3001 2008 (rising 40 101) 57 4877 611 713 1234567))
-    -- C313: added, 9: 4
+    -- C317: added, 9: 4
     ∷ add various (alike 9 1000 1000 1000) ⟶ refused 4 0 (site various)
-    -- C314: added, 11: 4
+    -- C318: added, 11: 4
     ∷ add various (alike 11 1000 1000 1000) ⟶ refused 4 0 (site various)
-    -- C315: added, 12: two half-cycles
+    -- C319: added, 12: two half-cycles
     ∷ add various (even 3 1000)
     ⟶ taken (site (table house 10014 5005 3001 2008 (rising 40 101) 57 4877 611 713 1234567))
-    -- C316: N 10, 9 samples per channel: 3
+    -- C320: N 10, 9 samples per channel: 3
     ∷ list ten 9 (alike 9 300 1001 1001) ⟶ refused 3 0 (run (nines 9))
-    -- C317: 10: one half-cycle
+    -- C321: 10: one half-cycle
     ∷ list ten 9 (alike 10 300 1001 1001) ⟶ events 1 (run (words 1 0 1 0 900000 299 9120010 4 ++ nines 1))
-    -- C318: 14: 4
+    -- C322: 14: 4
     ∷ list ten 9 (alike 14 300 1001 1001) ⟶ refused 4 0 (run (nines 9))
-    -- C319: 15: two half-cycles
+    -- C323: 15: two half-cycles
     ∷ list ten 9 (alike 15 300 1001 1001) ⟶ events 1 (run (words 1 0 2 0 900000 299 18240020 4 ++ nines 1))
     ∷ []
 
@@ -1159,29 +1167,29 @@ lengths =
 
 samples : List Case
 samples =
-    -- C320: all samples 100,000
+    -- C324: all samples 100,000
     list high 9 (even 2 100000) ⟶ events 1 (run (words 3 0 1 0 80000000000 2000 0 0 ++ nines 1))
-    -- C321: all samples -100,000
+    -- C325: all samples -100,000
     ∷ list high 9 (mirror (even 2 100000)) ⟶ events 1 (run (words 3 0 1 0 80000000000 2000 0 0 ++ nines 1))
-    -- C322: 100,001: 6, at its index
+    -- C326: 100,001: 6, at its index
     ∷ list high 9 (set (even 2 50000) 0 (pos 100001)) ⟶ refused 6 0 (run (nines 9))
-    -- C323: -100,001
+    -- C327: -100,001
     ∷ list high 9 (set (even 2 50000) 4 (minus 100001)) ⟶ refused 6 4 (run (nines 9))
-    -- C324: 2,147,483,647
+    -- C328: 2,147,483,647
     ∷ list high 9 (set (even 2 50000) 8 (pos 2147483647)) ⟶ refused 6 8 (run (nines 9))
-    -- C325: -2,147,483,647
+    -- C329: -2,147,483,647
     ∷ list high 9 (set (even 2 50000) 22 (minus 2147483647)) ⟶ refused 6 22 (run (nines 9))
-    -- C326: -2,147,483,648 is missing, and no refusal
+    -- C330: -2,147,483,648 is missing, and no refusal
     ∷ list high 9 (set (even 2 50000) 23 lost) ⟶ events 0 (run (nines 9))
-    -- C327: two of them: the first index
+    -- C331: two of them: the first index
     ∷ list high 9 (set (set (even 2 50000) 20 (pos 100001)) 7 (minus 100001)) ⟶ refused 6 7 (run (nines 9))
-    -- C328: a missing sample before it is none
+    -- C332: a missing sample before it is none
     ∷ list high 9 (set (set (even 2 50000) 7 lost) 20 (pos 100001)) ⟶ refused 6 20 (run (nines 9))
-    -- C329: added: 6, at the last index
+    -- C333: added: 6, at the last index
     ∷ add various (set (even 2 1000) 23 (pos 100001)) ⟶ refused 6 23 (site various)
-    -- C330: added, two of them
+    -- C334: added, two of them
     ∷ add various (set (set (even 2 1000) 13 (minus 100001)) 14 (pos 100001)) ⟶ refused 6 13 (site various)
-    -- C331: added, a single sample of 100,000
+    -- C335: added, a single sample of 100,000
     ∷ add various (set (even 2 1000) 0 (pos 100000))
     ⟶ taken (site (table house 10013 5003 3002 2008 (rising 40 101) 57 4877 611 714 1234567))
     ∷ []
@@ -1190,22 +1198,22 @@ samples =
 
 rooms : List Case
 rooms =
-    -- C332: room 7 for K2: 7, at the number of events
+    -- C336: room 7 for K2: 7, at the number of events
     list house 7 (even 2 1000 ++ even 2 500 ++ even 2 1000) ⟶ refused 7 1 (run (nines 7))
-    -- C333: room 8: accepted, and all of it written
+    -- C337: room 8: accepted, and all of it written
     ∷ list house 8 (even 2 1000 ++ even 2 500 ++ even 2 1000) ⟶ events 1 (run (words 1 1 4 3 2000000 500 36000000 0))
-    -- C334: no room at all
+    -- C338: no room at all
     ∷ list house 0 (even 2 1000 ++ even 2 500 ++ even 2 1000) ⟶ refused 7 1 (run (nines 0))
-    -- C335: no room and no event: accepted
+    -- C339: no room and no event: accepted
     ∷ list house 0 (even 6 1000) ⟶ events 0 (run (nines 0))
-    -- C336: room for one event of two
+    -- C340: room for one event of two
     ∷ list house 8 (even 2 1000 ++ even 2 0 ++ even 2 1000) ⟶ refused 7 2 (run (nines 8))
-    -- C337: room 15 for two events
+    -- C341: room 15 for two events
     ∷ list house 15 (even 2 1000 ++ even 2 0 ++ even 2 1000) ⟶ refused 7 2 (run (nines 15))
-    -- C338: room 16
+    -- C342: room 16
     ∷ list house 16 (even 2 1000 ++ even 2 0 ++ even 2 1000)
     ⟶ events 2 (run (words 1 1 4 3 0 0 48000000 0 ++ words 2 2 3 3 0 0 0 0))
-    -- C339: room 20: the last four numbers stay
+    -- C343: room 20: the last four numbers stay
     ∷ list house 20 (even 2 1000 ++ even 2 0 ++ even 2 1000)
     ⟶ events 2 (run (words 1 1 4 3 0 0 48000000 0 ++ words 2 2 3 3 0 0 0 0 ++ nines 4))
     ∷ []
@@ -1214,38 +1222,38 @@ rooms =
 
 order : List Case
 order =
-    -- C340: f 55, hysteresis 6, length 5, a sample out of range: 1, at f
+    -- C344: f 55, hysteresis 6, length 5, a sample out of range: 1, at f
     list (settings 8 1000 55 90 10 110 6) 7 (pos 100001 ∷ pos 1000 ∷ pos 1000 ∷ pos 1000 ∷ pos 1000 ∷ [])
     ⟶ refused 1 3 (run (nines 7))
-    -- C341: length 5, a sample out of range: 2
+    -- C345: length 5, a sample out of range: 2
     ∷ list house 7 (pos 100001 ∷ pos 1000 ∷ pos 1000 ∷ pos 1000 ∷ pos 1000 ∷ []) ⟶ refused 2 0 (run (nines 7))
-    -- C342: 7 samples per channel, one out of range: 3
+    -- C346: 7 samples per channel, one out of range: 3
     ∷ list house 7 (set (alike 7 1000 1000 1000) 0 (pos 100001)) ⟶ refused 3 0 (run (nines 7))
-    -- C343: 9 samples per channel, one out of range: 4
+    -- C347: 9 samples per channel, one out of range: 4
     ∷ list house 7 (set (alike 9 1000 1000 1000) 0 (pos 100001)) ⟶ refused 4 0 (run (nines 7))
-    -- C344: a sample out of range and too little room: 6
+    -- C348: a sample out of range and too little room: 6
     ∷ list house 7 (set (even 2 1000 ++ even 2 500 ++ even 2 1000) 71 (pos 100001)) ⟶ refused 6 71 (run (nines 7))
-    -- C345: f 55, hysteresis 6 and too little room: 1
+    -- C349: f 55, hysteresis 6 and too little room: 1
     ∷ list (settings 8 1000 55 90 10 110 6) 7 (even 2 1000 ++ even 2 500 ++ even 2 1000) ⟶ refused 1 3 (run (nines 7))
-    -- C346: hysteresis 6 alone: 1, at 7
+    -- C350: hysteresis 6 alone: 1, at 7
     ∷ list (settings 8 1000 50 90 10 110 6) 9 (even 2 1000 ++ even 2 500 ++ even 2 1000) ⟶ refused 1 7 (run (nines 9))
-    -- C347: an unsound table, full, length 5, a sample out of range: 9
+    -- C351: an unsound table, full, length 5, a sample out of range: 9
     ∷ add (table house 4000000 4000000 0 1 none 0 0 0 0 0) (pos 100001 ∷ pos 1000 ∷ pos 1000 ∷ pos 1000 ∷ pos 1000 ∷ [])
     ⟶ refused 9 0 (site (table house 4000000 4000000 0 1 none 0 0 0 0 0))
-    -- C348: an unsound table: 9
+    -- C352: an unsound table: 9
     ∷ add (table house 10012 5003 3001 2009 (rising 40 101) 57 4877 611 713 1234567) (even 2 1000 ++ even 2 500 ++ even 2 1000)
     ⟶ refused 9 0 (site (table house 10012 5003 3001 2009 (rising 40 101) 57 4877 611 713 1234567))
-    -- C349: a full table, length 5, a sample out of range: 2
+    -- C353: a full table, length 5, a sample out of range: 2
     ∷ add (healthyOnly 4000000) (pos 100001 ∷ pos 1000 ∷ pos 1000 ∷ pos 1000 ∷ pos 1000 ∷ [])
     ⟶ refused 2 0 (site (healthyOnly 4000000))
-    -- C350: a full table, 7 samples per channel, one out of range: 3
+    -- C354: a full table, 7 samples per channel, one out of range: 3
     ∷ add (healthyOnly 4000000) (set (alike 7 1000 1000 1000) 0 (pos 100001)) ⟶ refused 3 0 (site (healthyOnly 4000000))
-    -- C351: a full table, 9 samples per channel, one out of range: 4
+    -- C355: a full table, 9 samples per channel, one out of range: 4
     ∷ add (healthyOnly 4000000) (set (alike 9 1000 1000 1000) 0 (pos 100001)) ⟶ refused 4 0 (site (healthyOnly 4000000))
-    -- C352: a full table, a sample out of range: 6
+    -- C356: a full table, a sample out of range: 6
     ∷ add (healthyOnly 4000000) (set (even 2 1000 ++ even 2 500 ++ even 2 1000) 71 (pos 100001))
     ⟶ refused 6 71 (site (healthyOnly 4000000))
-    -- C353: five half-cycles where there is room for four: 8, at 4
+    -- C357: five half-cycles where there is room for four: 8, at 4
     ∷ add (healthyOnly 3999996) (even 2 1000 ++ even 2 500 ++ even 2 1000) ⟶ refused 8 4 (site (healthyOnly 3999996))
     ∷ []
 

@@ -1,5 +1,6 @@
--- The known answers K1 to K12: one table of cases, one statement.
-use Prim.Native.Nat.{ℕ}
+-- The known answers: one table of cases, one statement. K1 to K12, each a recording; and sags on both sides of the curve's last
+-- border, each by its event words.
+use Prim.Native.Nat.{ℕ, _+_, _*_}
 use mathlib.Core.Path.{_≡_, refl}
 use mathlib.Core.List.{List, [], _∷_, _++_, map}
 use lib.ListN.{replicate, set}
@@ -68,6 +69,16 @@ answersTo xs =
       site = added (freshened settings .table) xs;
       straight = sagShort settings xs;
     }
+
+-- what the rules say of event words under settings: score and cell
+record Judged : Type 0 where
+  under : Settings
+  event : Event
+  score : Scoring
+  cell : ℕ
+
+judgedOf : Settings → Event → Judged
+judgedOf s e = record { under = s; event = e; score = scoring s e; cell = cellOf s e }
 
 -- a score by the bits of its two floats
 abbrev bits : ℕ → ℕ → Scoring
@@ -251,6 +262,36 @@ cases =
     }
     ∷ []
 
-known-answers : map (λ (c : Case). answersTo (c .given)) cases ≡ cases
-unfolding answersTo cases firstBad badSetting settingsGood halvesOf anyMissing squares sumsAt halfAt full carries inRun inEvent starts endOf seenOf extremeOf earliest climb retainedOf shortsOf sixSums typeOf eventFrom eventAt eventsOf inBounds sagGood isEvent reasonOf scoring rowOf columnOf cellOf isHealthy isDisturbed isUnknown isPlaced isUnplaced sagCell sagShortfalls sagShort grown isUnsound recordingCheck settingsCheck roomCheck listCheck listed written freshened soundCheck fullCheck addCheck added div ofInt ofBits
-known-answers = refl
+-- the same settings with f 60
+abbrev sixty : Settings
+sixty = record { n = 8; r = 1000; f = 60; sag = 90; interruption = 10; swell = 110; hysteresis = 2 }
+
+-- a sag of h half-cycles at 899 on all channels, both ends seen: K4's extreme, and in each half-cycle K4's shortfall
+abbrev at899 : ℕ → Event
+at899 h =
+    record {
+      kind = 1;
+      start = 7;
+      end = 7 + h;
+      seen = 3;
+      extreme = 6465608;
+      retained = 899;
+      shortfall = 4603176 * h;
+      class = 0;
+    }
+
+judged : List Judged
+judged =
+    -- h = 20 f, by 800: 101 / 200 = 0.505, energy 5.753
+    record { under = settings; event = at899 1000; score = bits 0x3fe0_28f5_c28f_5c29 0x4017_0312_6e97_8d50; cell = 37 }
+    -- h = 20 f + 1, by 900: 101 / 100 = 1.01, energy 5.759
+    ∷ record { under = settings; event = at899 1001; score = bits 0x3ff0_28f5_c28f_5c29 0x4017_0937_4bc6_a7f0; cell = 37 }
+    -- f 60, h = 20 f, by 800: 0.505, energy 5.753
+    ∷ record { under = sixty; event = at899 1200; score = bits 0x3fe0_28f5_c28f_5c29 0x4017_0312_6e97_8d50; cell = 37 }
+    -- f 60, h = 20 f + 1, by 900: 1.01, energy 5.758
+    ∷ record { under = sixty; event = at899 1201; score = bits 0x3ff0_28f5_c28f_5c29 0x4017_0831_26e9_78d5; cell = 37 }
+    ∷ []
+
+known-answers : (map (λ (c : Case). answersTo (c .given)) cases ≡ cases) × (map (λ (c : Judged). judgedOf (c .under) (c .event)) judged ≡ judged)
+unfolding answersTo cases judgedOf judged firstBad badSetting settingsGood halvesOf anyMissing squares sumsAt halfAt full carries inRun inEvent starts endOf seenOf extremeOf earliest climb retainedOf shortsOf sixSums typeOf eventFrom eventAt eventsOf inBounds sagGood isEvent reasonOf scoring rowOf columnOf cellOf isHealthy isDisturbed isUnknown isPlaced isUnplaced sagCell sagShortfalls sagShort grown isUnsound recordingCheck settingsCheck roomCheck listCheck listed written freshened soundCheck fullCheck addCheck added div ofInt ofBits
+known-answers = (refl, refl)

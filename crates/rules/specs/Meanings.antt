@@ -6,6 +6,8 @@ use mathlib.Core.Bool.{true, false}
 use mathlib.Core.List.{List}
 use mathlib.Core.Logic.{_⊎_}
 use lib.IntN.{ℤ, pos, negsuc, natAbs, _-ℤ_, _+ℤ_}
+use lib.Ieee.{Float}
+use lib.Ieee.Exact.{HasValue}
 use lib.ListN.{length, getD}
 use Rattle.rules.specs.Recorder.{badSetting, settingsGood}
 use Rattle.rules.specs.Halves.{square}
@@ -128,6 +130,12 @@ Against R (suc (suc (suc zero))) f h = R h (2 * f)
 Against R (suc (suc (suc (suc zero)))) f h = R h (6 * f)
 Against R (suc (suc (suc (suc (suc zero))))) f h = R h (40 * f)
 Against R (suc (suc (suc (suc (suc (suc i)))))) f h = R h (120 * f)
+
+-- ---- severity
+
+-- y is exactly twice x, as the numbers that the two floats stand for, with no rounding: x is a / c and y is 2a / c, c above 0
+abbrev pub Twice : Float → Float → Type 0
+Twice x y = (a : ℕ) × (c : ℕ) × (0 < c) × HasValue x false a c × HasValue y false (2 * a) c
 
 -- ---- what is turned away
 

@@ -54,9 +54,10 @@ reasonOf s e =
 
 -- ---- the score
 
--- the curve value at h half-cycles
+-- the curve value at h half-cycles: 0 for h at most 2; else 500 while 5h is at most 2f; else 700 while h is at most f; else 800 while
+-- h is at most 20f; 900 after that
 abbrev pub curveOf : ℕ → ℕ → ℕ
-curveOf f h = cond (leb h 2) 0 (cond (leb (5 * h) (2 * f)) 500 (cond (leb h f) 700 800))
+curveOf f h = cond (leb h 2) 0 (cond (leb (5 * h) (2 * f)) 500 (cond (leb h f) 700 (cond (leb h (20 * f)) 800 900)))
 
 -- a whole number as a 64-bit float
 abbrev pub whole : ℕ → Float
