@@ -30,14 +30,15 @@ pub thousand : ofBits binary64 4652007308841189376 ≡ ofInt binary64 (pos 1000)
 unfolding ofBits ofInt
 thousand = refl
 
-curve-pick : (a b c : Bool) → cond a 0 (cond b 500 (cond c 700 800)) ≤ 800
-curve-pick true b c = lit≤ tt
-curve-pick false true c = lit≤ tt
-curve-pick false false true = lit≤ tt
-curve-pick false false false = lit≤ tt
+curve-pick : (a b c d : Bool) → cond a 0 (cond b 500 (cond c 700 (cond d 800 900))) ≤ 900
+curve-pick true b c d = lit≤ tt
+curve-pick false true c d = lit≤ tt
+curve-pick false false true d = lit≤ tt
+curve-pick false false false true = lit≤ tt
+curve-pick false false false false = lit≤ tt
 
-pub curve-high : (f h : ℕ) → curveOf f h ≤ 800
-curve-high f h = curve-pick (leb h 2) (leb (5 * h) (2 * f)) (leb h f)
+pub curve-high : (f h : ℕ) → curveOf f h ≤ 900
+curve-high f h = curve-pick (leb h 2) (leb (5 * h) (2 * f)) (leb h f) (leb h (20 * f))
 
 -- ---- milliseconds
 

@@ -122,12 +122,15 @@ fn curve(f: u64, h: u64) -> u64
     if h <= f {
         return 700;
     }
-    800
+    if h <= 20 * f {
+        return 800;
+    }
+    900
 }
 
 // The retained value against the curve: one division of two whole numbers.
 fn severity(r: u64, c: u64) -> f64
-    requires { ⌜ (r ≤ 1000) × (c ≤ 800) ⌝ }
+    requires { ⌜ (r ≤ 1000) × (c ≤ 900) ⌝ }
     ensures { λ x. ⌜ x ≡ severityOf r c ⌝ }
 {
     (1000 - r) as f64 / (1000 - c) as f64
