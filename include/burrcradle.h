@@ -88,6 +88,10 @@ uint64_t burr_cell(uint64_t n, uint64_t r, uint64_t f, uint64_t sag, uint64_t in
  * Handed over: the settings, the event's eight numbers, and two lent doubles.
  * Returned: the reason, as of burr_reason: 0 where the event has a score.
  * Written: where it returns 0, the severity and the energy in seconds; otherwise nothing.
+ *
+ * The severity is (1000 - retained) / (1000 - c), with c the curve's value for h = end - start half-cycles: 0 for h at most
+ * 2, else 500 while 5 h is at most 2 f, else 700 while h is at most f, else 800 while h is at most 20 f (10 seconds), and 900
+ * after that.
  */
 uint64_t burr_score(uint64_t n, uint64_t r, uint64_t f, uint64_t sag, uint64_t interruption, uint64_t swell,
                     uint64_t hysteresis, uint64_t kind, uint64_t start, uint64_t end, uint64_t seen,

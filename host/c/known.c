@@ -9,8 +9,9 @@
 #include <stdlib.h>
 #include <string.h>
 
-/* N 8, R 1000, f 50, thresholds 90, 10, 110, hysteresis 2. */
+/* N 8, R 1000, f 50, thresholds 90, 10, 110, hysteresis 2; and the same with f 60. */
 static const uint64_t settings[7] = {8, 1000, 50, 90, 10, 110, 2};
+static const uint64_t sixty[7] = {8, 1000, 60, 90, 10, 110, 2};
 
 #define SETTINGS(s) (s)[0], (s)[1], (s)[2], (s)[3], (s)[4], (s)[5], (s)[6]
 #define EVENT(e) (e)[0], (e)[1], (e)[2], (e)[3], (e)[4], (e)[5], (e)[6], (e)[7]
@@ -81,6 +82,23 @@ static const struct known known[] = {
 
 #define CASES (sizeof known / sizeof known[0])
 
+/* Sags at 899 on all channels, by their words alone, on both sides of the curve's last step: it stands at 800 while they last
+   at most 20 f half-cycles, and at 900 after that. */
+struct lasting {
+    const char *name;
+    const uint64_t *settings;
+    struct answer answer;
+};
+
+static const struct lasting lasting[] = {
+    {"50 Hz, 1000 half-cycles", settings, {{1, 7, 1007, 3, 6465608, 899, 4603176000, 0}, 0, 37, 0.505, 5.753}},
+    {"50 Hz, 1001 half-cycles", settings, {{1, 7, 1008, 3, 6465608, 899, 4607779176, 0}, 0, 37, 1.01, 5.759}},
+    {"60 Hz, 1200 half-cycles", sixty, {{1, 7, 1207, 3, 6465608, 899, 5523811200, 0}, 0, 37, 0.505, 5.753}},
+    {"60 Hz, 1201 half-cycles", sixty, {{1, 7, 1208, 3, 6465608, 899, 5528414376, 0}, 0, 37, 1.01, 5.758}},
+};
+
+#define LASTING (sizeof lasting / sizeof lasting[0])
+
 static int wrong = 0;
 
 static void check(int good, const char *name, const char *what)
@@ -116,13 +134,13 @@ static size_t samples_of(const struct known *k, int32_t *samples)
     return BLOCK * k->blocks;
 }
 
-/* The three questions about one event. */
-static void ask(const char *name, const struct answer *x)
+/* The three questions about one event, under settings s. */
+static void ask(const char *name, const uint64_t *s, const struct answer *x)
 {
     double severity = -1, energy = -1;
-    uint64_t reason = burr_reason(SETTINGS(settings), EVENT(x->words));
-    uint64_t cell = burr_cell(SETTINGS(settings), EVENT(x->words));
-    uint64_t why = burr_score(SETTINGS(settings), EVENT(x->words), &severity, &energy);
+    uint64_t reason = burr_reason(SETTINGS(s), EVENT(x->words));
+    uint64_t cell = burr_cell(SETTINGS(s), EVENT(x->words));
+    uint64_t why = burr_score(SETTINGS(s), EVENT(x->words), &severity, &energy);
     printf("%s: reason %llu, cell %llu", name, (unsigned long long)reason, (unsigned long long)cell);
     if (why == 0)
         printf(", severity %g, energy %g s", severity, energy);
@@ -145,7 +163,7 @@ static void list(const struct known *k)
     check(answer == k->events, k->name, "number of events");
     for (size_t i = 0; i < k->events; i++) {
         check(memcmp(&events[BURR_EVENT * i], k->answers[i].words, sizeof k->answers[i].words) == 0, k->name, "words");
-        ask(k->name, &k->answers[i]);
+        ask(k->name, settings, &k->answers[i]);
     }
     check(all(&events[BURR_EVENT * k->events], ROOM - BURR_EVENT * k->events, 9), k->name, "beyond the last event");
     if (k->events == 0)
@@ -279,6 +297,8 @@ int main(void)
         list(&known[i]);
         site(&known[i]);
     }
+    for (size_t i = 0; i < LASTING; i++)
+        ask(lasting[i].name, lasting[i].settings, &lasting[i].answer);
     turned_away();
     bad_settings();
     bad_tables();

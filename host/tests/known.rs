@@ -1,7 +1,8 @@
-//! The known answers K1 to K12, through every function of the proved library. The numbers are those of the rules.
+//! The known answers K1 to K12, through every function of the proved library, and the scores on both sides of the curve's last
+//! step. The numbers are those of the rules.
 mod common;
 use common::{blocks, blocks_of, dip, BLOCK, MISSING, SETTINGS};
-use host::{add, cell, fresh, list, reason, score, Event, Score, TABLE};
+use host::{add, cell, fresh, list, reason, score, Event, Score, Settings, TABLE};
 
 /// What is known of one event: its numbers, its reason, its cell, and severity and energy where it has a score.
 struct Answer {
@@ -48,16 +49,16 @@ fn known(samples: &[i32], answers: &[Answer], site: Site) {
     }
     assert_eq!(events, want);
     for answer in answers {
-        asked(answer);
+        asked(&SETTINGS, answer);
     }
     tabled(samples, site);
 }
 
-fn asked(answer: &Answer) {
-    assert_eq!(reason(&SETTINGS, &answer.words), answer.reason);
-    assert_eq!(cell(&SETTINGS, &answer.words), answer.cell);
+fn asked(s: &Settings, answer: &Answer) {
+    assert_eq!(reason(s, &answer.words), answer.reason);
+    assert_eq!(cell(s, &answer.words), answer.cell);
     let want = answer.score.map(|(severity, energy)| Score { severity, energy });
-    assert_eq!(score(&SETTINGS, &answer.words), want.ok_or(answer.reason));
+    assert_eq!(score(s, &answer.words), want.ok_or(answer.reason));
 }
 
 fn tabled(samples: &[i32], site: Site) {
@@ -153,6 +154,30 @@ fn k12() {
     let healthy = (1000, 1000);
     let samples = blocks_of(&[healthy, healthy, (500, 1000), (500, 1000), healthy, healthy]);
     known(&samples, &[sag], Site { cell: 17, sags: 1, shortfall: 12000000, ..site(5, 2, 3) });
+}
+
+/// A sag of so many half-cycles at 600 on all channels; of the first and the last of them, half is at 1000.
+fn lasting(half_cycles: u64) -> Vec<i32> {
+    let mut levels = vec![600; half_cycles as usize + 3];
+    let last = levels.len() - 2;
+    levels[..2].fill(1000);
+    levels[last..].fill(1000);
+    blocks(&levels)
+}
+
+/// 20 f half-cycles are 10 s. Up to there the curve stands at 800, after it at 900: from samples at 50 Hz, and by words alone.
+#[test]
+fn the_last_step_of_the_curve() {
+    for (h, shortfall, severity, energy) in [(1000, 15344640000, 2.0, 19.18), (1001, 15360000000, 4.0, 19.2)] {
+        let sag = scored([1, 1, 1 + h, 3, 2880000, 600, shortfall, 0], 21, severity, energy);
+        known(&lasting(h), &[sag], Site { cell: 21, sags: 1, shortfall, ..site(h + 2, 2, h) });
+    }
+    let sixty = Settings { f: 60, ..SETTINGS };
+    let at_899 = |h: u64| [1, 7, 7 + h, 3, 6465608, 899, 4603176 * h, 0];
+    asked(&SETTINGS, &scored(at_899(1000), 37, 0.505, 5.753));
+    asked(&SETTINGS, &scored(at_899(1001), 37, 1.01, 5.759));
+    asked(&sixty, &scored(at_899(1200), 37, 0.505, 5.753));
+    asked(&sixty, &scored(at_899(1201), 37, 1.01, 5.758));
 }
 
 #[test]
