@@ -205,7 +205,7 @@ fn a_long_event_is_named_at_each_cut() {
         "this is a piece of the sag that a cut has split, so the end is not told.",
         "none, reason 2: only the end unseen; the recording is cut there, so neither severity nor cell is given",
         "this is a piece of the sag that a cut has split, so the start is not told.",
-        "of this piece alone: severity (1000 - 500) / (1000 - 800) = 2.500",
+        "of this piece alone: severity (1000 - 500) / (1000 - 900) = 5.000",
     ] {
         assert!(told.contains(words), "{words}: {told}");
     }

@@ -37,7 +37,7 @@ fn the_score_is_worked_out() {
     );
 }
 
-/// The curve's value for each duration: at 50 Hz it steps at 3, 21 and 51 half-cycles.
+/// The curve's value for each duration: at 50 Hz it steps at 3, 21, 51 and 1001 half-cycles.
 #[test]
 fn the_curve_is_the_rules() {
     for (lasts, curve, severity) in [
@@ -47,6 +47,8 @@ fn the_curve_is_the_rules() {
         (21, 700, "1.333"),
         (50, 700, "1.333"),
         (51, 800, "2.000"),
+        (1000, 800, "2.000"),
+        (1001, 900, "4.000"),
     ] {
         // Half-cycles that are half in the sag are at 82 percent, and belong to it: one more than blocks.
         let mut levels = vec![1000; 4];

@@ -102,14 +102,59 @@ fn events_and_cells_are_the_librarys() {
     }
 }
 
-/// The curve comes from the library's scores: at 50 Hz it steps at 3, 21 and 51 half-cycles, to 50, 70 and 80 percent.
+/// The drawing of depth against duration.
+fn scatter(page: &str) -> &str {
+    page.split_once("Depth against duration").unwrap().1.split_once("</svg>").unwrap().0
+}
+
+/// Where the drawing has so many half-cycles at 50 Hz: its axis goes from 10^-2.3 s to 10^last s, from 60 to 936.
+fn x_of(half_cycles: f64, last: f64) -> f64 {
+    60.0 + 876.0 * ((half_cycles / 100.0).log10() + 2.3) / (last + 2.3)
+}
+
+/// The curve comes from the library's scores: at 50 Hz it steps at 3, 21, 51 and 1001 half-cycles, to 50, 70, 80 and 90
+/// percent, and the last step is in the drawing: that goes on to 100 s, though the one sag is short.
 #[test]
-fn the_severity_curve_has_four_levels() {
+fn the_severity_curve_has_five_levels() {
     let folder = Folder::new("report-curve");
     folder.write("k.csv", csv(&k2()));
     let page = page(&folder, &["k.csv"]);
+    assert!(scatter(&page).contains("x=\"936\" y=\"280\">100 s</text>"), "{}", scatter(&page));
     let path = page.split_once("<path class=\"severity\" d=\"").unwrap().1.split('"').next().unwrap();
-    assert_eq!((path.matches('M').count(), path.matches('V').count()), (1, 3), "{path}");
+    let mut steps = path.strip_prefix("M60 264").unwrap_or_else(|| panic!("{path}")).split('H').skip(1);
+    for (first, level) in [(3.0, 500.0), (21.0, 700.0), (51.0, 800.0), (1001.0, 900.0)] {
+        let (x, y) = steps.next().and_then(|step| step.split_once('V')).unwrap_or_else(|| panic!("{path}"));
+        let [x, y] = [x, y].map(|number| number.parse::<f64>().unwrap());
+        // The drawing is 250 high for 120 percent, and has one digit after the point.
+        assert!((x - x_of(first, 2.0)).abs() < 0.06 && (y - (264.0 - level * 250.0 / 1200.0)).abs() < 0.06, "{path}");
+    }
+    assert_eq!(steps.collect::<Vec<_>>(), ["936"], "{path}");
+}
+
+/// The drawing goes as far as the longest sag, and its point and name stay in it: one of a little more than 100 s, and one
+/// that fills the longest recording but for a half-cycle at either end.
+#[test]
+fn a_long_sag_is_drawn_inside() {
+    for (lasts, axis, last) in [(10_010, "1000 s", 3.0), (99_998, "1000 s", 3.0)] {
+        let folder = Folder::new("report-long-sag");
+        let mut levels = vec![600; lasts + 3];
+        levels[..2].fill(1000);
+        levels[lasts + 1..].fill(1000);
+        folder.write("k.i32", raw(&blocks(&levels)));
+        let page = page(&folder, &["k.i32"]);
+        let chart = scatter(&page);
+        assert!(chart.contains(&format!("x=\"936\" y=\"280\">{axis}</text>")), "{chart}");
+        let number = |after: &str, name: &str| {
+            let rest = chart.split_once(after).unwrap_or_else(|| panic!("{after}: {chart}")).1;
+            rest.split_once(&format!("{name}=\"")).unwrap().1.split('"').next().unwrap().parse::<f64>().unwrap()
+        };
+        let x = number("<circle class=\"mark sag scored\"", "cx");
+        assert!((x - x_of(lasts as f64, last)).abs() < 0.06 && x < 936.0, "{lasts}: {x}");
+        // Its severity is the curve's last step's: (1000 - 600) / (1000 - 900).
+        assert!(page.contains("<td>4.000</td>"), "{page}");
+        let name = number("<text class=\"tick halo\"", "x");
+        assert!((0.0..=960.0 - 3.0 * 6.2 / 2.0).contains(&name), "{lasts}: {name}");
+    }
 }
 
 /// A wrong R makes swells of many times R: the axes stay readable.
@@ -118,7 +163,7 @@ fn the_axis_of_depth_has_few_labels() {
     let folder = Folder::new("report-axis");
     folder.write("k.csv", csv(&blocks(&[1000, 1000, 23_000, 23_000, 1000, 1000])));
     let page = page(&folder, &["k.csv"]);
-    let chart = page.split_once("Depth against duration").unwrap().1.split_once("</svg>").unwrap().0;
+    let chart = scatter(&page);
     assert!(chart.matches(" %</text>").count() <= 10, "{chart}");
     assert!(chart.contains(">2000 %</text>"), "{chart}");
     // The names of the thresholds draw together, and don't lie on each other.

@@ -45,7 +45,8 @@ pub fn chart(s: &Settings, contents: &Contents) -> String {
     let highest = events().map(|event| event.retained).max().unwrap_or(0).max(s.swell * 10) as f64;
     let frame = Frame {
         pace: (2 * s.f) as f64,
-        decades: (-2.3, longest.log10().floor().max(0.0) + 1.0),
+        // To 100 s at least, so that the curve's last step is seen.
+        decades: (-2.3, longest.log10().floor().max(1.0) + 1.0),
         top: (highest / 100.0).floor() * 100.0 + 100.0,
     };
     let inner = grid(&frame) + &curve(&frame, contents.curve) + &points(&frame, &parts) + &legend(TOP + HEIGHT + 50.0);
@@ -122,18 +123,21 @@ fn points(frame: &Frame, parts: &[&Part]) -> String {
     out
 }
 
-/// The points' names, each beside, above or below its point, where it meets no other point and no other name.
+/// The points' names, each beside, above or below its point, where it stays in the drawing and meets no other point and no
+/// other name.
 fn named(points: &[(f64, f64, String)]) -> String {
     let mut boxes: Vec<(f64, f64, f64)> = points.iter().map(|(x, y, _)| (*x, *y, 7.0)).collect();
     let mut out = String::new();
     for (x, y, name) in points {
         let half = wide(name) / 2.0;
         let spots = [(x + 9.0 + half, *y), (*x, y - 14.0), (*x, y + 15.0), (x - 9.0 - half, *y)];
+        let inside = |(nx, _): &&(f64, f64)| nx + half < WIDTH;
         let free = |(nx, ny): &&(f64, f64)| {
             let meets = |(bx, by, wide): &(f64, f64, f64)| (nx - bx).abs() < wide + half && (ny - by).abs() < 13.0;
             !boxes.iter().any(meets)
         };
-        let (nx, ny) = spots.iter().find(free).copied().unwrap_or(spots[0]);
+        let spot = spots.iter().filter(inside).find(free).or(spots.iter().find(inside));
+        let (nx, ny) = spot.copied().unwrap_or(spots[0]);
         boxes.push((nx, ny, half));
         out += &text("tick halo", "middle", nx, ny + 4.0, name);
     }
