@@ -131,11 +131,11 @@ fn the_severity_curve_has_five_levels() {
     assert_eq!(steps.collect::<Vec<_>>(), ["936"], "{path}");
 }
 
-/// The drawing goes as far as the longest sag, and its point and name stay in it: one of a little more than 100 s, and one
-/// that fills the longest recording but for a half-cycle at either end.
+/// The drawing goes as far as the longest sag, and its point and name stay in it: one of 60 s, one of a little more than 100 s,
+/// and one that fills the longest recording but for a half-cycle at either end.
 #[test]
 fn a_long_sag_is_drawn_inside() {
-    for (lasts, axis, last) in [(10_010, "1000 s", 3.0), (99_998, "1000 s", 3.0)] {
+    for (lasts, axis, last) in [(6_000, "100 s", 2.0), (10_010, "1000 s", 3.0), (99_998, "1000 s", 3.0)] {
         let folder = Folder::new("report-long-sag");
         let mut levels = vec![600; lasts + 3];
         levels[..2].fill(1000);
@@ -149,7 +149,7 @@ fn a_long_sag_is_drawn_inside() {
             rest.split_once(&format!("{name}=\"")).unwrap().1.split('"').next().unwrap().parse::<f64>().unwrap()
         };
         let x = number("<circle class=\"mark sag scored\"", "cx");
-        assert!((x - x_of(lasts as f64, last)).abs() < 0.06 && x < 936.0, "{lasts}: {x}");
+        assert!((x - x_of(lasts as f64, last)).abs() < 0.06 && x <= 936.0, "{lasts}: {x}");
         // Its severity is the curve's last step's: (1000 - 600) / (1000 - 900).
         assert!(page.contains("<td>4.000</td>"), "{page}");
         let name = number("<text class=\"tick halo\"", "x");
