@@ -129,6 +129,8 @@ fn the_severity_curve_has_five_levels() {
         assert!((x - x_of(first, 2.0)).abs() < 0.06 && (y - (264.0 - level * 250.0 / 1200.0)).abs() < 0.06, "{path}");
     }
     assert_eq!(steps.collect::<Vec<_>>(), ["936"], "{path}");
+    let told = "The curve stands at 0 % up to 0.020 s, 50 % up to 0.200 s, 70 % up to 0.500 s, 80 % up to 10.000 s and 90 % beyond.";
+    assert!(page.contains(told), "{page}");
 }
 
 /// The drawing goes as far as the longest sag, and its point and name stay in it: one of 60 s, one of a little more than 100 s,

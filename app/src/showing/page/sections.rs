@@ -133,9 +133,21 @@ fn short(contents: &Contents) -> Option<(String, u64, u64)> {
 fn scatter_section(s: &Settings, contents: &Contents) -> String {
     format!(
         "<section><h2>Depth against duration</h2>{}<p class=\"note\">Retained value in percent of R. The severity of a sag is \
-         how far it stays under 100 %, divided by how far the curve does.</p></section>\n",
-        scatter::chart(s, contents)
+         how far it stays under 100 %, divided by how far the curve does. The curve stands at {}.</p></section>\n",
+        scatter::chart(s, contents),
+        levels(s, contents.curve)
     )
+}
+
+/// The curve's values, each with the longest duration that it is for.
+fn levels(s: &Settings, curve: &[(u64, u64)]) -> String {
+    let lasts = curve.iter().skip(1).map(|(next, _)| format!("up to {}", words::seconds(next - 1, s.f)));
+    let told: Vec<String> = curve
+        .iter()
+        .zip(lasts.chain(["beyond".to_string()]))
+        .map(|((_, value), lasts)| format!("{} % {lasts}", value / 10))
+        .collect();
+    words::and(&told.iter().map(String::as_str).collect::<Vec<_>>())
 }
 
 fn recording_section(s: &Settings, number: usize, shown: &Shown, part: &Part) -> String {
