@@ -1,25 +1,27 @@
 -- Severity is one fraction, rounded once; half the divisor gives exactly twice the float. So beyond 20f half-cycles, where the curve stands at
 -- 900 and not at 800, a sag's severity is twice what it would be by 800. Assumes nothing.
 use Prim.Native.Nat.{ℕ, zero, suc, _-_, _*_, _/_, _^_, _≤_, _<_}
-use mathlib.Core.Path.{_≡_, refl, sym, ap, _∙_, subst}
+use mathlib.Core.Path.{_≡_, refl, sym, _∙_, subst}
 use mathlib.Core.Bool.{true, false, true≢false}
 use native.Mathlib.Nat.{mul-pos, mul-one, mul-assoc, mul-comm, mul-left-comm, mul-le-mul, le-refl, le-trans, zero-lt-suc}
 use native.Mathlib.Omega.{arith}
 use borrow.Author.Tests.{ne-eqb}
 use lib.Dec.{T, lit≤, lit<}
 use lib.Pow.{pow-pos}
-use lib.Ieee.{Float, fin, Format, binary64, prec, low, up, down, size, round, div, ofInt, le}
-use lib.Ieee.Fits.{up-pos, down-pos}
+use lib.Ieee.{Float, fin, Format, binary64, up, down, size, round, div, ofInt}
+use lib.Ieee.Fits.{down-pos}
 use lib.Ieee.Exact.{HasValue}
 use lib.Ieee.Back.{round-whole}
 use lib.Ieee.Order.{round-mono}
-use lib.Ieee.Positive.{positive, positive-finite, positive-of-value, first-pos, between}
-use lib.Ieee.Scale.{grid, overflow, round-same, round-val, round-under, grid-scale, normal-of-fraction}
-use Rattle.rules.specs.Scores.{whole, curveOf, severityOf, scoreOf}
-use Rattle.rules.specs.Demands.{Scorable}
+use lib.Ieee.Positive.{positive, positive-finite, first-pos, between}
+use lib.Ieee.Scale.{grid, round-same, round-val, round-under, grid-scale, normal-of-fraction}
+use Rattle.rules.specs.Scores.{whole, severityOf, scoring}
 use Rattle.rules.specs.Meanings.{Twice}
 use Rattle.rules.specs.declared.Settings.{Settings}
 use Rattle.rules.specs.declared.Event.{Event}
+use Rattle.rules.specs.declared.Score.{Score}
+use Rattle.rules.specs.declared.Scoring.the-variants.{Scored}
+use Rattle.rules.proofs.DemandTwo.{scored-only}
 use Rattle.rules.proofs.Places.{curve-is}
 use Rattle.rules.proofs.Ranges.{good}
 
@@ -106,9 +108,10 @@ half-the-divisor r b c h e =
 pub severity-doubles : (r : ℕ) → Twice (severityOf r 800) (severityOf r 900)
 severity-doubles r = half-the-divisor r 800 900 (lit< tt) refl
 
--- THE LAW: a sag that has a score and lasts more than 20f half-cycles has exactly twice the severity that 800 would give it
-pub long-sag-doubles : (s : Settings) (e : Event) → Scorable s e → 20 * s .f < e .end - e .start
-    → Twice (severityOf (e .retained) 800) (scoreOf s e .severity)
-long-sag-doubles s e sound h =
-    let c = curve-is (s .f) (good s (sound .settings) .f-low) (e .end - e .start) in
-    rw (c .4 .1 h) (severity-doubles (e .retained))
+-- THE LAW: where a sag of more than 20f half-cycles is scored, its severity is exactly twice what 800 would give
+pub long-sag-doubles : (s : Settings) (e : Event) (x : Score) → scoring s e ≡ Scored x → 20 * s .f < e .end - e .start
+    → Twice (severityOf (e .retained) 800) (x .severity)
+long-sag-doubles s e x scored long =
+    let only = scored-only s e x scored in
+    let curve = curve-is (s .f) (good s (only .0 .settings) .f-low) (e .end - e .start) in
+    rw (only .1, curve .4 .1 long) (severity-doubles (e .retained))

@@ -2,8 +2,8 @@
 //! sits in the second program, so the fuzzer looks for bytes that take a new way through the rules.
 use oracle::compare::{differs, explain, Case};
 use oracle::recording::MISSING;
-use oracle::score::retained;
-use oracle::{Settings, Table};
+use oracle::score::{beside_the_steps, retained};
+use oracle::{Event, Settings, Table};
 
 /// The bytes, read from the front; past the end they are zeros.
 struct Bytes<'a>(&'a [u8]);
@@ -59,14 +59,24 @@ fn case(bytes: &mut Bytes) -> Case {
         _ => {
             let mut event = [0; 8].map(|_: u64| bytes.word());
             // Found by chance once in a while only; the upper half of the first byte says whether it is put right.
-            if asked >= 128
-                && oracle::settings::first_bad(&settings).is_none()
-                && event[4] <= settings.n * 10_000_000_000
-            {
-                event[5] = retained(&settings, event[4]);
+            if asked >= 128 && oracle::settings::first_bad(&settings).is_none() {
+                put_right(bytes, &settings, &mut event);
             }
             Case::Score { settings, event }
         }
+    }
+}
+
+/// The retained value is that of the extreme, and the lower half of a byte says beside which step of the curve the end lies.
+fn put_right(bytes: &mut Bytes, s: &Settings, event: &mut Event) {
+    let [_, start, end, _, extreme, retained_value, ..] = event;
+    if *extreme <= s.n * 10_000_000_000 {
+        *retained_value = retained(s, *extreme);
+    }
+    let choice = bytes.byte() as usize;
+    if choice < 128 {
+        *start %= 90_000;
+        *end = *start + beside_the_steps(s.f)[choice % 8];
     }
 }
 
