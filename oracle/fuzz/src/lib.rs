@@ -3,7 +3,7 @@
 use oracle::compare::{differs, explain, Case};
 use oracle::recording::MISSING;
 use oracle::score::{beside_the_steps, retained};
-use oracle::{Event, Settings, Table};
+use oracle::{Event, Settings, Table, WORDS};
 
 /// The bytes, read from the front; past the end they are zeros.
 struct Bytes<'a>(&'a [u8]);
@@ -57,27 +57,27 @@ fn case(bytes: &mut Bytes) -> Case {
             Case::Add { table, samples: samples(bytes, &settings) }
         }
         _ => {
-            let mut event = [0; 8].map(|_: u64| bytes.word());
-            // Found by chance once in a while only; the upper half of the first byte says whether it is put right.
-            if asked >= 128 && oracle::settings::first_bad(&settings).is_none() {
-                put_right(bytes, &settings, &mut event);
-            }
+            // Among any words an event is found by chance once in a while only.
+            let likely = asked >= 128 && oracle::settings::first_bad(&settings).is_none();
+            let event = if likely { near_event(bytes, &settings) } else { [0; WORDS].map(|_: u64| bytes.word()) };
             Case::Score { settings, event }
         }
     }
 }
 
-/// The retained value is that of the extreme, and the lower half of a byte says beside which step of the curve the end lies.
-fn put_right(bytes: &mut Bytes, s: &Settings, event: &mut Event) {
-    let [_, start, end, _, extreme, retained_value, ..] = event;
-    if *extreme <= s.n * 10_000_000_000 {
-        *retained_value = retained(s, *extreme);
-    }
+/// Numbers that are an event or nearly one: each within its bounds or one beyond, the end beside a step of the curve or
+/// anywhere.
+fn near_event(bytes: &mut Bytes, s: &Settings) -> Event {
+    let kind = [1, 1, 1, 1, 2, 3, 0, 4][bytes.byte() as usize % 8];
+    let seen = [3, 3, 3, 3, 0, 1, 2, 4][bytes.byte() as usize % 8];
     let choice = bytes.byte() as usize;
-    if choice < 128 {
-        *start %= 90_000;
-        *end = *start + beside_the_steps(s.f)[choice % 8];
-    }
+    let h = if choice < 128 { beside_the_steps(s.f)[choice % 8] } else { bytes.half_word() };
+    let start = bytes.half_word();
+    let extreme = bytes.word() % [s.n * s.r * s.r, s.n * 10_000_000_000 + 2][choice / 8 % 2];
+    let most = 3 * s.n * s.r * s.r * h + 2;
+    let shortfall = if kind == 1 || choice == 255 { bytes.word() % most } else { 0 };
+    let class = if kind == 1 || choice == 254 { bytes.byte() % 8 } else { 0 };
+    [kind, start, start + h, seen, extreme, retained(s, extreme), shortfall, class]
 }
 
 /// Good settings, unless the first byte says that they are any words.
