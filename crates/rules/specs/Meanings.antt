@@ -1,5 +1,6 @@
--- What the rules say, as facts of the sums S, the samples, durations and settings, in other words than the tests of the other files.
--- Of those they use only `settingsGood` and `badSetting`, which have laws of their own. The laws hold each definition to these.
+-- What the rules say, as facts of the sums S, the samples, durations, settings and floats, in other words than the tests of the other
+-- files. Of those they use only `settingsGood`, `badSetting`, `square` and `eventsOf`, which have laws of their own. The laws hold each
+-- definition to these.
 use Prim.Native.Nat.{ℕ, zero, suc, _+_, _-_, _*_, _/_, _≤_, _<_}
 use mathlib.Core.Path.{_≡_}
 use mathlib.Core.Bool.{true, false}

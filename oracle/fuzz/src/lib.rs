@@ -77,7 +77,8 @@ fn near_event(bytes: &mut Bytes, s: &Settings) -> Event {
     let most = 3 * s.n * s.r * s.r * h + 2;
     let shortfall = if kind == 1 || choice == 255 { bytes.word() % most } else { 0 };
     let class = if kind == 1 || choice == 254 { bytes.byte() % 8 } else { 0 };
-    [kind, start, start + h, seen, extreme, retained(s, extreme), shortfall, class]
+    let retained = retained(s, extreme) + u64::from(choice == 253);
+    [kind, start, start + h, seen, extreme, retained, shortfall, class]
 }
 
 /// Good settings, unless the first byte says that they are any words.
