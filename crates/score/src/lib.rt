@@ -12,6 +12,7 @@ ghost use Rattle.rules.specs.Halves.{full};
 ghost use Rattle.rules.specs.Events.{retainedOf};
 ghost use Rattle.rules.specs.Scores.{inBounds, sagGood, isEvent, reasonOf, curveOf, severityOf, energyOf, scoreOf, scoring};
 ghost use Rattle.rules.specs.Site.{placeOf, rowOf, columnOf, cellAt, cellOf};
+ghost use Rattle.score.specs.Newton.{NotBelow, First, Nearer};
 
 // Whether every setting is in its range.
 fn settings_good(s: Settings) -> bool
@@ -28,22 +29,31 @@ pub fn full_of(s: Settings) -> u64
     s.n * s.r * s.r
 }
 
-// The root of a number below the square of 100,001, rounded down: halving the range that it lies in.
+// A first guess at the root of q: one of Newton's steps from the power of two with half of q's digits, so that its division is a shift.
+fn first_guess(q: u64) -> u64
+    ensures { λ r. ⌜ First q r ⌝ }
+{
+    let half = (64 - u64::leading_zeros(q)) / 2;
+    ((1u64 << half) + (q >> half)) / 2
+}
+
+// A guess nearer to the root of q: one of Newton's steps down from r. The root itself stays.
+fn nearer(q: u64, r: u64) -> u64
+    requires { ⌜ (r < 4294967296) × NotBelow q r ⌝ }
+    ensures { λ t. ⌜ Nearer q r t ⌝ }
+{
+    if r * r <= q {
+        return r;
+    }
+    (r + q / r) / 2
+}
+
+// The root of a number below the square of 100,001, rounded down. From the first guess three steps are enough; small numbers take fewer.
 fn root(q: u64) -> u64
     requires { ⌜ q < 10000200001 ⌝ }
     ensures { λ r. ⌜ (r * r ≤ q) × (q < (r + 1) * (r + 1)) ⌝ }
 {
-    let mut low = 0;
-    let mut high = 100001;
-    while 1 < high - low {
-        let middle = low + (high - low) / 2;
-        if middle * middle <= q {
-            low = middle;
-        } else {
-            high = middle;
-        }
-    }
-    low
+    nearer(q, nearer(q, nearer(q, first_guess(q))))
 }
 
 // The retained value of an extreme.
