@@ -1,5 +1,5 @@
-//! The known answers K1 to K12 of the rules, and sags on both sides of the curve's last step, held against the second program,
-//! its linear and its swift form, and the proved library.
+//! The known answers K1 to K12 of the rules, sags on both sides of the curve's last step, and each retained value at both of its
+//! ends, held against the second program, its linear and its swift form, and the proved library.
 use oracle::recording::MISSING;
 use oracle::site::at;
 use oracle::{Event, Refused, Settings, Table, TABLE};
@@ -13,6 +13,7 @@ fn blocks(levels: &[i32]) -> Vec<i32> {
 
 type Lister = fn(&Settings, &[i32], &mut [u64]) -> Result<u64, Refused>;
 type Adder = fn(&mut Table, &[i32]) -> Result<(), Refused>;
+type Reasoner = fn(&Settings, &Event) -> u64;
 
 const PROGRAMS: [(&str, Lister, Adder); 4] = [
     ("second program", oracle::list, oracle::add),
@@ -210,6 +211,30 @@ fn beyond_10_seconds_severity_doubles() {
                 let [last, first, longest] = [20 * f, 20 * f + 1, 100_000].map(severity);
                 assert_eq!((2.0 * last).to_bits(), first.to_bits(), "f {f}, retained {retained}");
                 assert_eq!(first, longest, "f {f}, retained {retained}");
+            }
+        }
+    }
+}
+
+/// The first and the last sum of each retained value that a recording can have: that value makes an event, the next ones on
+/// either side do not. A swell, so that only the retained value decides between reason 4 and 5.
+#[test]
+fn each_retained_value_at_both_ends() {
+    for (n, r) in [(8, 1_000), (10, 7_001), (256, 10_000), (512, 50_000)] {
+        let s = Settings { n, r, ..SETTINGS };
+        let greatest = n * 10_000_000_000;
+        // The smallest S with a x a x N x R x R at most 1,000,000 x S.
+        let first = |a: u64| (u128::from(a * a) * u128::from(n * r * r)).div_ceil(1_000_000) as u64;
+        for value in 0..=100_000_000 / r {
+            for sum in [first(value), (first(value + 1) - 1).min(greatest)] {
+                let swell = |retained| [3, 0, 1, 3, sum, retained, 0, 0];
+                for (program, reason) in
+                    [("second program", oracle::reason as Reasoner), ("proved library", host::reason)]
+                {
+                    let reasons =
+                        [value, value + 1, value.wrapping_sub(1)].map(|retained| reason(&s, &swell(retained)));
+                    assert_eq!(reasons, [4, 5, 5], "{program}: N {n}, R {r}, sum {sum}");
+                }
             }
         }
     }

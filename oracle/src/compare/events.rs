@@ -93,7 +93,9 @@ fn extreme(random: &mut Random, s: &Settings) -> u64 {
         }
         3 => beside(random, at(10 * s.sag)),
         4 => {
-            let retained = random.below(1_000);
+            // No allowed sum has more: a sample of 100,000 against R.
+            let most = random.pick(&[10, 1_000, 100_000_000 / s.r]);
+            let retained = random.between(0, most);
             beside(random, at(retained))
         }
         5 => random.below(at(10 * s.sag)),

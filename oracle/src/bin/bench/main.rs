@@ -1,8 +1,9 @@
-//! Figures for docs/BENCH.md, as the markdown that it holds: nanoseconds per sample of `list` and `add`; peak memory; and how
-//! the cost grows. Three programs over the same recordings: the proved library, the plain program, which is the yardstick of
-//! request 14, and the swift one, which says what the proof costs. They take turns: each round runs every program once,
-//! and the next round begins with the next program, so that what else the machine does meets all three alike. The best
-//! round of each is kept, and the median. On every recording the three have to agree.
+//! Figures for docs/BENCH.md, as the markdown that it holds: nanoseconds per sample of `list` and `add`; peak memory; how
+//! the cost grows; and how many turns the search for a root takes (`roots`). Three programs over the same recordings: the
+//! proved library, the plain program, which is the yardstick of request 14, and the swift one, which says what the proof
+//! costs. They take turns: each round runs every program once, and the next round begins with the next program, so that
+//! what else the machine does meets all three alike. The best round of each is kept, and the median. On every recording
+//! the three have to agree.
 //!
 //! `bench [--half-cycles N] [--part N] [--best N]`; without options one hour at 50 Hz in parts of 100,000 half-cycles, the
 //! best of seven rounds. `bench --half-cycles 20000 --part 10000 --best 3` takes seconds.
@@ -14,6 +15,8 @@ use oracle::{plain, swift, Refused, Settings, Table};
 use std::hint::black_box;
 use std::process::{Command, ExitCode};
 use std::time::Instant;
+
+mod roots;
 
 type Lister = fn(&Settings, &[i32], &mut [u64]) -> Result<u64, Refused>;
 type Adder = fn(&mut Table, &[i32]) -> Result<(), Refused>;
@@ -64,6 +67,7 @@ fn main() -> ExitCode {
     by_samples_per_cycle(size);
     by_events(size);
     println!("\nPeak memory of the whole run (VmHWM): {} MiB.", status("VmHWM:") / 1024);
+    roots::print();
     ExitCode::SUCCESS
 }
 
