@@ -106,6 +106,21 @@ mod tests {
         }
     }
 
+    /// All numbers, in a minute or two: how many take so many steps, and the first of them.
+    #[test]
+    #[ignore = "ten billion numbers"]
+    fn every_number() {
+        let (mut counts, mut first) = ([0u64; 4], [None; 4]);
+        for q in 0..=LARGEST {
+            let (root, steps) = stepped(q);
+            assert!(root * root <= q && q < (root + 1) * (root + 1) && steps <= enough(q), "q {q}");
+            counts[steps as usize] += 1;
+            first[steps as usize].get_or_insert(q);
+        }
+        let steps: u64 = (0..4).map(|steps| steps * counts[steps as usize]).sum();
+        println!("steps 0 to 3: {counts:?}, first {first:?}, mean {:.3}", steps as f64 / (LARGEST + 1) as f64);
+    }
+
     /// The lines of a function's body.
     fn body<'a>(text: &'a str, function: &str) -> Vec<&'a str> {
         let (_, after) = text.split_once(&format!("\nfn {function}(")).expect("the function");
