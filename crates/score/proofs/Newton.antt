@@ -39,12 +39,9 @@ product-below x y m h = either (decLe x m)
 
 -- ---- one step
 
--- a step from any guess above 0 is not below the root
+-- a step from any guess above 0 is not below the root: q is below r times q / r + 1, and these two make at most twice what follows the step
 pub step-above : (q r : ℕ) → 0 < r → NotBelow q (step q r)
-step-above q r h =
-    let d = q / r in
-    let m = step q r + 1 in
-    lt-of-lt-of-le (lt-mul-div-succ q h) (product-below r (d + 1) m (omega arith))
+step-above q r h = lt-of-lt-of-le (lt-mul-div-succ q h) (product-below r (q / r + 1) (step q r + 1) (omega arith))
 
 -- twice the guess times the next is at most the guess's square and q
 step-product : (q r : ℕ) → 2 * (r * step q r) ≤ r * r + q
