@@ -6,11 +6,19 @@ use crate::{Event, Score, Settings};
 /// The cell of an event that has none.
 pub const NO_CELL: u64 = 40;
 
-/// The largest r with r x r x N x R x R at most 1,000,000 x S: thousandths of R, rounded down.
+/// The whole number nearest to 1000 V / R, halves upward: the largest r with (2 r - 1)^2 x N x R x R at most 4,000,000 x S,
+/// and 0 where no r from 1 on has that.
 pub fn retained(s: &Settings, sum: u64) -> u64 {
-    let fits = |r: u64| u128::from(r) * u128::from(r) * reference(s) <= 1_000_000 * u128::from(sum);
+    // Twice 1000 V / R, squared, against twice r - 1/2, squared.
+    let reached = |r: u64| u128::from(2 * r - 1).pow(2) * reference(s) <= 4_000_000 * u128::from(sum);
     // No allowed sum reaches 2^17 thousandths: a sample of 100,000 is 100 times the smallest reference.
-    (0..17).rev().fold(0, |r, bit| if fits(r + (1 << bit)) { r + (1 << bit) } else { r })
+    (0..17).rev().fold(0, |r, bit| if reached(r + (1 << bit)) { r + (1 << bit) } else { r })
+}
+
+/// The smallest sum with this retained value, the exact half if it is a whole number: where a comparison has to look.
+pub fn first_sum(s: &Settings, retained: u64) -> u64 {
+    let twice = u128::from((2 * retained).saturating_sub(1));
+    (twice * twice * reference(s)).div_ceil(4_000_000) as u64
 }
 
 /// Why the event has no score: 0 where it has one.

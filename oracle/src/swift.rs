@@ -330,9 +330,11 @@ fn event(s: &Settings, samples: &[i32], ended: &Ended) -> Event {
     [*kind as u64, open.start, *end, seen, open.extreme, retained(s, open.extreme), open.shortfall, class]
 }
 
-/// The largest r with r x r x N x R x R at most 1,000,000 x S: r x r is whole, so the quotient may be rounded down first.
+/// The whole number nearest to 1000 V / R, halves upward: of twice 1000 V / R, rounded down, the half, rounded up. Its square
+/// is four times the quotient of 1,000,000 x S, and of the rest: 4,000,000 x S itself need not fit.
 fn retained(s: &Settings, sum: u64) -> u64 {
-    (1_000_000 * sum / (s.n * s.r * s.r)).isqrt()
+    let (whole, full) = (1_000_000 * sum, s.n * s.r * s.r);
+    (4 * (whole / full) + 4 * (whole % full) / full).isqrt().div_ceil(2)
 }
 
 /// The type of a sag from a half-cycle whose sums of squares are known: 0 for A, 1 to 6 for Da, Db, Dc, Ca, Cb, Cc.

@@ -1,6 +1,7 @@
 //! The known answers K1 to K12 of the rules, sags on both sides of the curve's last step, and each retained value at both of its
 //! ends, held against the second program, its linear and its swift form, and the proved library.
 use oracle::recording::MISSING;
+use oracle::score::first_sum;
 use oracle::site::at;
 use oracle::{Event, Refused, Settings, Table, TABLE};
 
@@ -128,9 +129,9 @@ fn k6_an_interruption_within_a_sag() {
 #[test]
 fn k7_rows_go_by_the_exact_extreme() {
     let samples = blocks(&[1000, 1000, 100, 101, 1000, 1000]);
-    let sag = [1, 1, 4, 3, 80_804, 100, 47_515_176, 0];
+    let sag = [1, 1, 4, 3, 80_804, 101, 47_515_176, 0];
     assert_listed(&samples, &[sag]);
-    assert_scored(sag, 9, 1.8, 59.0);
+    assert_scored(sag, 9, 1.798, 59.0);
 }
 
 #[test]
@@ -148,7 +149,7 @@ fn k9_a_missing_sample_cuts_a_sag_in_two() {
         let mut samples = blocks(&[1000, 1000, 500, 500, 500, 500, 1000, 1000]);
         samples[lost] = MISSING;
         let before = [1, 1, 3, 1, 2_000_000, 500, 27_000_000, 0];
-        let after = [1, 5, 6, 2, 5_000_000, 790, 9_000_000, 0];
+        let after = [1, 5, 6, 2, 5_000_000, 791, 9_000_000, 0];
         assert_listed(&samples, &[before, after]);
         assert_not_scored(before, 2);
         assert_not_scored(after, 1);
@@ -204,8 +205,9 @@ fn the_last_step_of_the_curve() {
 fn beyond_10_seconds_severity_doubles() {
     for f in [50, 60] {
         let s = Settings { f, sag: 95, ..SETTINGS };
-        for retained in 0..950 {
-            let sag = |half_cycles| [1, 0, half_cycles, 3, s.n * retained * retained, retained, 0, 0];
+        for retained in 0..=950 {
+            // The smallest sum is below the threshold for 950, too: the half below it.
+            let sag = |half_cycles| [1, 0, half_cycles, 3, first_sum(&s, retained), retained, 0, 0];
             for score in [oracle::score, host::score] {
                 let severity = |half_cycles| score(&s, &sag(half_cycles)).unwrap().severity;
                 let [last, first, longest] = [20 * f, 20 * f + 1, 100_000].map(severity);
@@ -223,10 +225,8 @@ fn each_retained_value_at_both_ends() {
     for (n, r) in [(8, 1_000), (10, 7_001), (256, 10_000), (512, 50_000)] {
         let s = Settings { n, r, ..SETTINGS };
         let greatest = n * 10_000_000_000;
-        // The smallest S with a x a x N x R x R at most 1,000,000 x S.
-        let first = |a: u64| (u128::from(a * a) * u128::from(n * r * r)).div_ceil(1_000_000) as u64;
-        for value in 0..=100_000_000 / r {
-            for sum in [first(value), (first(value + 1) - 1).min(greatest)] {
+        for value in 0..=(100_000_000 + r / 2) / r {
+            for sum in [first_sum(&s, value), (first_sum(&s, value + 1) - 1).min(greatest)] {
                 let swell = |retained| [3, 0, 1, 3, sum, retained, 0, 0];
                 for (program, reason) in
                     [("second program", oracle::reason as Reasoner), ("proved library", host::reason)]

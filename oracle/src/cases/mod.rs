@@ -5,6 +5,7 @@ mod channels;
 mod gaps;
 mod making;
 mod marks;
+mod nearest;
 mod recording;
 mod refusals;
 mod scores;
@@ -121,6 +122,7 @@ pub fn sections() -> Vec<Section> {
         marks::section(),
         gaps::section(),
         types::section(),
+        nearest::section(),
         scores::durations(),
         scores::depths(),
         scores::energies(),

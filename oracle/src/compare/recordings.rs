@@ -103,7 +103,7 @@ fn levels(random: &mut Random, s: &Settings, blocks: usize) -> Recording {
 }
 
 fn at_the_reference(s: &Settings, blocks: usize) -> Recording {
-    let block = block_of(s, 1_000, 0);
+    let block = block_of(s, 2_000, 0);
     Recording { samples: block.samples.repeat(blocks), near: block.near * blocks as u64 }
 }
 
@@ -112,10 +112,10 @@ fn one_channel(random: &mut Random, s: &Settings, blocks: usize) -> Recording {
     let mut left = blocks;
     while left > 0 {
         let hold = (random.between(1, 5) as usize).min(left);
-        let thousandths = border(random, s);
+        let halves = border(random, s);
         let beside = random.pick(&[-1, 0, 0, 1]);
         // Two neighbouring blocks make a window; only one of them is moved, so that the window is off by one unit.
-        let (moved, still) = (block_of(s, thousandths, beside), block_of(s, thousandths, 0));
+        let (moved, still) = (block_of(s, halves, beside), block_of(s, halves, 0));
         for i in 0..hold {
             let block = if i % 2 == 0 { &moved } else { &still };
             channel.samples.extend(&block.samples);
@@ -126,7 +126,8 @@ fn one_channel(random: &mut Random, s: &Settings, blocks: usize) -> Recording {
     channel
 }
 
-/// A level in thousandths of the reference: most often one that some rule compares with.
+/// A level in halves of a thousandth of the reference: most often one that some rule compares with, else any or one beside. The
+/// odd ones are where a retained value begins.
 fn border(random: &mut Random, s: &Settings) -> u64 {
     let compared = [
         10 * s.sag,
@@ -137,19 +138,19 @@ fn border(random: &mut Random, s: &Settings) -> u64 {
         10 * (s.swell - s.hysteresis),
     ];
     match random.below(8) {
-        0..=3 => random.pick(&compared),
-        4 => random.pick(&[100, 400, 700, 850]),
-        5 => random.pick(&[0, 500, 1_000, 1_000, 1_000, 1_200]),
-        6 => random.pick(&compared) + random.below(7) - 3,
-        _ => random.below(1_600),
+        0..=3 => 2 * random.pick(&compared),
+        4 => 2 * random.pick(&[100, 400, 700, 850]),
+        5 => 2 * random.pick(&[0, 500, 1_000, 1_000, 1_000, 1_200]),
+        6 => 2 * random.pick(&compared) + random.below(13) - 6,
+        _ => random.below(3_200),
     }
 }
 
 /// Half a cycle of one channel whose squares sum to half of what a window at this level has, plus `beside`. The window's
 /// sum is rounded up, so that with 0 it is the first at or above the level, and with -1 the last below. Where no four
 /// squares are found for the end of the block, it is near: its sum is a little less.
-fn block_of(s: &Settings, thousandths: u64, beside: i64) -> Recording {
-    let window = (thousandths * thousandths * s.n * s.r * s.r).div_ceil(1_000_000);
+fn block_of(s: &Settings, halves: u64, beside: i64) -> Recording {
+    let window = (halves * halves * s.n * s.r * s.r).div_ceil(4_000_000);
     // The two halves of an odd sum differ by one; both being the larger, a window is at most one unit above.
     let wanted = (window.div_ceil(2) as i64 + beside).max(0) as u64;
     let count = s.n / 2;
