@@ -94,7 +94,7 @@ sag-low s e h =
     both low short (both (low && short) (leb (e .class) 6) h .0) .0
 
 -- its extreme is below the sag threshold, and that is at most 95 percent
-pub sag-retained : (s : Settings) (e : Event) → Scorable s e → e .retained < 950
+pub sag-retained : (s : Settings) (e : Event) → Scorable s e → e .retained ≤ 950
 sag-retained s e c =
     let g = good s (c .settings) in
     let p = parts s e (c .event) in

@@ -236,16 +236,16 @@ sags : List Case
 sags =
     -- C1: a sag begun by channel a goes on while b alone is below sag threshold plus hysteresis, the others back
     list house 9 (even 2 1000 ++ uneven 1 500 1000 1000 ++ uneven 2 1000 915 1000 ++ even 2 1000)
-    ⟶ events 1 (run (words 1 1 4 3 5000000 790 6000000 4 ++ nines 1))
+    ⟶ events 1 (run (words 1 1 4 3 5000000 791 6000000 4 ++ nines 1))
     -- C2: begun by channel b, kept by c
     ∷ list house 9 (even 2 1000 ++ uneven 1 1000 500 1000 ++ uneven 2 1000 1000 915 ++ even 2 1000)
-    ⟶ events 1 (run (words 1 1 4 3 5000000 790 6000000 5 ++ nines 1))
+    ⟶ events 1 (run (words 1 1 4 3 5000000 791 6000000 5 ++ nines 1))
     -- C3: begun by channel c, kept by a
     ∷ list house 9 (even 2 1000 ++ uneven 1 1000 1000 500 ++ uneven 2 915 1000 1000 ++ even 2 1000)
-    ⟶ events 1 (run (words 1 1 4 3 5000000 790 6000000 6 ++ nines 1))
+    ⟶ events 1 (run (words 1 1 4 3 5000000 791 6000000 6 ++ nines 1))
     -- C4: hysteresis 5: channel b keeps its own sag at 84 percent, and a surplus of c is no shortfall taken away
     ∷ list wide 9 (even 2 1000 ++ uneven 1 1000 300 1000 ++ uneven 2 1000 840 1000 ++ uneven 1 1000 1000 1100 ++ even 2 1000)
-    ⟶ events 1 (run (words 1 1 4 3 3182400 630 8457600 5 ++ nines 1))
+    ⟶ events 1 (run (words 1 1 4 3 3182400 631 8457600 5 ++ nines 1))
     -- C5: a sag ends only when all are back: a first, then b, last c
     ∷ list house 9 (even 2 1000 ++ uneven 1 500 600 700 ++ uneven 1 1000 600 700 ++ uneven 1 1000 1000 700 ++ even 2 1000)
     ⟶ events 1 (run (words 1 1 5 3 2880000 600 28480000 4 ++ nines 1))
@@ -317,13 +317,13 @@ swells : List Case
 swells =
     -- C24: a swell begun by channel a goes on while b alone is above swell threshold minus hysteresis
     list house 9 (even 2 1000 ++ uneven 1 1300 1000 1000 ++ uneven 2 1000 1090 1000 ++ even 2 1000)
-    ⟶ events 1 (run (words 3 1 4 3 10760000 1159 0 0 ++ nines 1))
+    ⟶ events 1 (run (words 3 1 4 3 10760000 1160 0 0 ++ nines 1))
     -- C25: begun by channel b, kept by c
     ∷ list house 9 (even 2 1000 ++ uneven 1 1000 1300 1000 ++ uneven 2 1000 1000 1090 ++ even 2 1000)
-    ⟶ events 1 (run (words 3 1 4 3 10760000 1159 0 0 ++ nines 1))
+    ⟶ events 1 (run (words 3 1 4 3 10760000 1160 0 0 ++ nines 1))
     -- C26: begun by channel c, kept by a
     ∷ list house 9 (even 2 1000 ++ uneven 1 1000 1000 1300 ++ uneven 2 1090 1000 1000 ++ even 2 1000)
-    ⟶ events 1 (run (words 3 1 4 3 10760000 1159 0 0 ++ nines 1))
+    ⟶ events 1 (run (words 3 1 4 3 10760000 1160 0 0 ++ nines 1))
     -- C27: it ends only when all are back: a first, then b, last c
     ∷ list house 9 (even 2 1000 ++ uneven 1 1500 1400 1300 ++ uneven 1 1000 1400 1300 ++ uneven 1 1000 1000 1300 ++ even 2 1000)
     ⟶ events 1 (run (words 3 1 5 3 15680000 1400 0 0 ++ nines 1))
@@ -349,7 +349,7 @@ overlaps =
     ⟶ events 2 (run (words 1 0 3 2 0 0 60000000 0 ++ words 2 0 2 2 0 0 0 0 ++ nines 1))
     -- C33: a sag and an interruption start at one half-cycle, after a swell
     ∷ list house 25 (even 2 1000 ++ even 1 1280 ++ even 3 0 ++ even 2 1000)
-    ⟶ events 3 (run (words 3 1 2 3 10553600 1148 0 0 ++ words 1 3 6 3 0 0 60000000 0 ++ words 2 3 5 3 0 0 0 0 ++ nines 1))
+    ⟶ events 3 (run (words 3 1 2 3 10553600 1149 0 0 ++ words 1 3 6 3 0 0 60000000 0 ++ words 2 3 5 3 0 0 0 0 ++ nines 1))
     -- C34: the same, in the table
     ∷ add (blank house) (even 2 1000 ++ even 1 1280 ++ even 3 0 ++ even 2 1000)
     ⟶ taken (site (table house 7 3 4 0 (put 1 1 none) 0 1 1 1 60000000))
@@ -384,7 +384,7 @@ marks : List Case
 marks =
     -- C42: hysteresis 0: channel a one unit below the sag threshold is a sag
     list sharp 9 (even 2 1000 ++ weave (quad 1799 59 9 6) (level 4 1000) (level 4 1000) ++ uneven 1 900 1000 1000 ++ even 2 1000)
-    ⟶ events 1 (run (words 1 2 3 3 6479999 899 1520001 4 ++ nines 1))
+    ⟶ events 1 (run (words 1 2 3 3 6479999 900 1520001 4 ++ nines 1))
     -- C43: hysteresis 0: on the sag threshold, and one unit above, it is none
     ∷ list sharp 1 (even 2 1000 ++ uneven 2 900 1000 1000 ++ weave (quad 1800 1 0 0) (level 4 1000) (level 4 1000)
     ++ uneven 1 900 1000 1000 ++ even 2 1000)
@@ -430,7 +430,7 @@ marks =
     -- C54: hysteresis 2: channel a one unit below the sag threshold is a sag
     ∷ list house 9 (even 2 1000 ++ weave (quad 1799 59 9 6) (level 4 1000) (level 4 1000) ++ uneven 1 900 1000 1000
     ++ even 2 1000)
-    ⟶ events 1 (run (words 1 2 3 3 6479999 899 1520001 4 ++ nines 1))
+    ⟶ events 1 (run (words 1 2 3 3 6479999 900 1520001 4 ++ nines 1))
     -- C55: hysteresis 2: on the sag threshold, and one unit above, it is none
     ∷ list house 1 (even 2 1000 ++ uneven 2 900 1000 1000 ++ weave (quad 1800 1 0 0) (level 4 1000) (level 4 1000)
     ++ uneven 1 900 1000 1000 ++ even 2 1000)
@@ -468,15 +468,15 @@ marks =
     -- C64: hysteresis 2: a one unit above swell threshold minus hysteresis keeps the swell, on it ends it
     ∷ list house 9 (even 2 1000 ++ uneven 1 1500 1000 1000 ++ uneven 1 1080 1000 1000
     ++ weave (quad 2160 1 0 0) (level 4 1000) (level 4 1000) ++ uneven 2 1080 1000 1000)
-    ⟶ events 1 (run (words 3 1 5 3 13665600 1306 0 0 ++ nines 1))
+    ⟶ events 1 (run (words 3 1 5 3 13665600 1307 0 0 ++ nines 1))
     -- C65: hysteresis 2: one unit below ends it too
     ∷ list house 9 (even 2 1000 ++ uneven 1 1500 1000 1000 ++ weave (quad 2159 63 18 5) (level 4 1000) (level 4 1000)
     ++ uneven 2 1080 1000 1000)
-    ⟶ events 1 (run (words 3 1 3 3 13665599 1306 0 0 ++ nines 1))
+    ⟶ events 1 (run (words 3 1 3 3 13665599 1307 0 0 ++ nines 1))
     -- C66: hysteresis 5: channel a one unit below the sag threshold is a sag
     ∷ list wide 9 (even 2 1000 ++ weave (quad 1599 55 13 2) (level 4 1000) (level 4 1000) ++ uneven 1 800 1000 1000
     ++ even 2 1000)
-    ⟶ events 1 (run (words 1 2 3 3 5119999 799 2880001 4 ++ nines 1))
+    ⟶ events 1 (run (words 1 2 3 3 5119999 800 2880001 4 ++ nines 1))
     -- C67: hysteresis 5: on the sag threshold, and one unit above, it is none
     ∷ list wide 1 (even 2 1000 ++ uneven 2 800 1000 1000 ++ weave (quad 1600 1 0 0) (level 4 1000) (level 4 1000)
     ++ uneven 1 800 1000 1000 ++ even 2 1000)
@@ -513,16 +513,16 @@ marks =
     -- C76: hysteresis 5: a one unit above swell threshold minus hysteresis keeps the swell, on it ends it
     ∷ list wide 9 (even 2 1000 ++ uneven 1 1500 1000 1000 ++ uneven 1 1150 1000 1000
     ++ weave (quad 2300 1 0 0) (level 4 1000) (level 4 1000) ++ uneven 2 1150 1000 1000)
-    ⟶ events 1 (run (words 3 1 5 3 14290000 1336 0 0 ++ nines 1))
+    ⟶ events 1 (run (words 3 1 5 3 14290000 1337 0 0 ++ nines 1))
     -- C77: hysteresis 5: one unit below ends it too
     ∷ list wide 9 (even 2 1000 ++ uneven 1 1500 1000 1000 ++ weave (quad 2299 67 10 3) (level 4 1000) (level 4 1000)
     ++ uneven 2 1150 1000 1000)
-    ⟶ events 1 (run (words 3 1 3 3 14289999 1336 0 0 ++ nines 1))
+    ⟶ events 1 (run (words 3 1 3 3 14289999 1337 0 0 ++ nines 1))
     -- C78: N 10, R 1001: 85 percent is an S of 7239457.225, and the whole number below it a sag
     ∷ list ten 9 (alike 10 1001 1001 1001
     ++ weave (level 5 1001) (pos 1701 ∷ pos 29 ∷ pos 3 ∷ pos 0 ∷ pos 851 ∷ []) (level 5 1001)
     ++ weave (level 5 1001) (level 5 851) (level 5 1001) ++ alike 10 1001 1001 1001)
-    ⟶ events 1 (run (words 1 2 3 3 7239457 849 2780553 5 ++ nines 1))
+    ⟶ events 1 (run (words 1 2 3 3 7239457 850 2780553 5 ++ nines 1))
     -- C79: and the one above it none
     ∷ list ten 1 (alike 10 1001 1001 1001
     ++ weave (level 5 1001) (pos 1701 ∷ pos 29 ∷ pos 3 ∷ pos 1 ∷ pos 851 ∷ []) (level 5 1001)
@@ -536,10 +536,10 @@ gaps : List Case
 gaps =
     -- C80: a gap on channel b cuts a sag: neither part has both ends seen
     list house 17 (set (even 2 1000 ++ even 4 500 ++ even 2 1000) 49 lost)
-    ⟶ events 2 (run (words 1 1 3 1 2000000 500 27000000 0 ++ words 1 5 6 2 5000000 790 9000000 0 ++ nines 1))
+    ⟶ events 2 (run (words 1 1 3 1 2000000 500 27000000 0 ++ words 1 5 6 2 5000000 791 9000000 0 ++ nines 1))
     -- C81: a gap on channel c, in the last sample of the block
     ∷ list house 17 (set (even 2 1000 ++ even 4 500 ++ even 2 1000) 59 lost)
-    ⟶ events 2 (run (words 1 1 3 1 2000000 500 27000000 0 ++ words 1 5 6 2 5000000 790 9000000 0 ++ nines 1))
+    ⟶ events 2 (run (words 1 1 3 1 2000000 500 27000000 0 ++ words 1 5 6 2 5000000 791 9000000 0 ++ nines 1))
     -- C82: a gap on channel c cuts a sag and an interruption
     ∷ list house 33 (set (even 2 1000 ++ even 6 0 ++ even 2 1000) 65 lost)
     ⟶ events 4 (run (words 1 1 4 1 0 0 60000000 0 ++ words 2 2 4 1 0 0 0 0 ++ words 1 6 8 2 0 0 36000000 0
@@ -549,7 +549,7 @@ gaps =
     ⟶ taken (site (table house 9 2 5 2 none 2 2 2 0 96000000))
     -- C84: a gap on channel b cuts a swell
     ∷ list house 17 (set (even 2 1000 ++ even 4 1300 ++ even 2 1000) 55 lost)
-    ⟶ events 2 (run (words 3 1 3 1 13520000 1300 0 0 ++ words 3 5 6 2 10760000 1159 0 0 ++ nines 1))
+    ⟶ events 2 (run (words 3 1 3 1 13520000 1300 0 0 ++ words 3 5 6 2 10760000 1160 0 0 ++ nines 1))
     -- C85: the same, in the table
     ∷ add (blank house) (set (even 2 1000 ++ even 4 1300 ++ even 2 1000) 55 lost)
     ⟶ taken (site (table house 7 2 3 2 none 0 0 0 2 0))
@@ -632,28 +632,28 @@ types =
     ⟶ events 1 (run (words 1 1 4 3 0 0 21760000 1 ++ nines 1))
     -- C111: N 10: a and b equal, type 6
     ∷ list ten 9 (alike 10 1001 1001 1001 ++ alike 10 900 900 400 ++ alike 10 1001 1001 1001)
-    ⟶ events 1 (run (words 1 1 4 3 1600000 399 16840020 6 ++ nines 1))
+    ⟶ events 1 (run (words 1 1 4 3 1600000 400 16840020 6 ++ nines 1))
     -- C112: sines, all three lower: type 0
     ∷ list house 9 (sines 1000 1000 1000 ++ sines 600 600 600)
-    ⟶ events 1 (run (words 1 1 3 1 2877446 599 23050182 0 ++ nines 1))
+    ⟶ events 1 (run (words 1 1 3 1 2877446 600 23050182 0 ++ nines 1))
     -- C113: sines, a lower: type 1
     ∷ list house 9 (sines 1000 1000 1000 ++ sines 500 1000 1000)
-    ⟶ events 1 (run (words 1 1 3 1 1999698 499 9001057 1 ++ nines 1))
+    ⟶ events 1 (run (words 1 1 3 1 1999698 500 9001057 1 ++ nines 1))
     -- C114: sines, b lower: type 2
     ∷ list house 9 (sines 1000 1000 1000 ++ sines 1000 500 1000)
-    ⟶ events 1 (run (words 1 1 3 1 1998262 499 9002221 2 ++ nines 1))
+    ⟶ events 1 (run (words 1 1 3 1 1998262 500 9002221 2 ++ nines 1))
     -- C115: sines, c lower: type 3
     ∷ list house 9 (sines 1000 1000 1000 ++ sines 1000 1000 500)
-    ⟶ events 1 (run (words 1 1 3 1 1998262 499 9002221 3 ++ nines 1))
+    ⟶ events 1 (run (words 1 1 3 1 1998262 500 9002221 3 ++ nines 1))
     -- C116: sines, b and c lower: type 4
     ∷ list house 9 (sines 1000 1000 1000 ++ sines 1000 500 500)
-    ⟶ events 1 (run (words 1 1 3 1 1998262 499 18004442 4 ++ nines 1))
+    ⟶ events 1 (run (words 1 1 3 1 1998262 500 18004442 4 ++ nines 1))
     -- C117: sines, c and a lower: type 5
     ∷ list house 9 (sines 1000 1000 1000 ++ sines 500 1000 500)
-    ⟶ events 1 (run (words 1 1 3 1 1998262 499 18003278 5 ++ nines 1))
+    ⟶ events 1 (run (words 1 1 3 1 1998262 500 18003278 5 ++ nines 1))
     -- C118: sines, a and b lower: type 6
     ∷ list house 9 (sines 1000 1000 1000 ++ sines 500 500 1000)
-    ⟶ events 1 (run (words 1 1 3 1 1998262 499 18003278 6 ++ nines 1))
+    ⟶ events 1 (run (words 1 1 3 1 1998262 500 18003278 6 ++ nines 1))
     -- C119: 100 x smallest, a fourth sum, is exactly 81 x largest: type 0
     ∷ list house 9 (even 2 1000 ++ alike 3 500 0 0 ++ alike 1 450 900 0 ++ alike 3 500 0 0 ++ alike 1 450 900 0 ++ even 2 1000)
     ⟶ events 1 (run (words 1 1 4 3 0 0 40950000 0 ++ nines 1))
@@ -699,89 +699,177 @@ types =
     ⟶ events 1 (run (words 1 1 7 3 720000 300 76520000 1 ++ nines 1))
     ∷ []
 
+-- ---- retained values: the nearest thousandth, halves upward
+
+nearest : List Case
+nearest =
+    -- C132: an extreme of 80802 is exactly 100.5: a sag with retained 101
+    list house 9 (even 2 1000 ++ weave (quad 201 0 0 0) (quad 201 0 0 0) (quad 201 0 0 0)
+    ++ weave (quad 201 0 0 0) (quad 201 0 0 0) (quad 201 0 0 0) ++ even 2 1000)
+    ⟶ events 1 (run (words 1 1 4 3 80802 101 47515188 0 ++ nines 1))
+    -- C133: one unit of S less: 100
+    ∷ list house 9 (even 2 1000 ++ weave (quad 200 20 0 0) (quad 200 20 0 0) (quad 200 20 0 0)
+    ++ weave (quad 201 0 0 0) (quad 201 0 0 0) (quad 201 0 0 0) ++ even 2 1000)
+    ⟶ events 1 (run (words 1 1 4 3 80801 100 47515194 0 ++ nines 1))
+    -- C134: exactly 99.5: an interruption and its sag, each with the 100 that 10 percent has
+    ∷ list house 17 (even 2 1000 ++ weave (quad 199 0 0 0) (quad 199 0 0 0) (quad 199 0 0 0)
+    ++ weave (quad 199 0 0 0) (quad 199 0 0 0) (quad 199 0 0 0) ++ even 2 1000)
+    ⟶ events 2 (run (words 1 1 4 3 79202 100 47524788 0 ++ words 2 2 3 3 79202 100 0 0 ++ nines 1))
+    -- C135: one unit less: 99
+    ∷ list house 17 (even 2 1000 ++ weave (quad 198 18 6 6) (quad 198 18 6 6) (quad 198 18 6 6)
+    ++ weave (quad 199 0 0 0) (quad 199 0 0 0) (quad 199 0 0 0) ++ even 2 1000)
+    ⟶ events 2 (run (words 1 1 4 3 79201 99 47524794 0 ++ words 2 2 3 3 79201 99 0 0 ++ nines 1))
+    -- C136: exactly 899.5 on b: a sag with retained 900, as the threshold has
+    ∷ list house 9 (even 2 1000 ++ weave (level 4 1000) (quad 1799 0 0 0) (level 4 1000)
+    ++ weave (level 4 1000) (quad 1799 0 0 0) (level 4 1000) ++ even 2 1000)
+    ⟶ events 1 (run (words 1 2 3 3 6472802 900 1527198 5 ++ nines 1))
+    -- C137: one unit less: 899
+    ∷ list house 9 (even 2 1000 ++ weave (level 4 1000) (quad 1798 58 14 6) (level 4 1000)
+    ++ weave (level 4 1000) (quad 1799 0 0 0) (level 4 1000) ++ even 2 1000)
+    ⟶ events 1 (run (words 1 2 3 3 6472801 899 1527199 5 ++ nines 1))
+    -- C138: exactly 1200.5: a swell with retained 1201
+    ∷ list house 9 (even 2 1000 ++ weave (quad 2401 0 0 0) (quad 2401 0 0 0) (quad 2401 0 0 0)
+    ++ weave (quad 2401 0 0 0) (quad 2401 0 0 0) (quad 2401 0 0 0) ++ even 2 1000)
+    ⟶ events 1 (run (words 3 1 4 3 11529602 1201 0 0 ++ nines 1))
+    -- C139: one unit less: 1200
+    ∷ list house 9 (even 2 1000 ++ weave (quad 2400 56 40 8) (quad 2400 56 40 8) (quad 2400 56 40 8)
+    ++ weave (quad 2401 0 0 0) (quad 2401 0 0 0) (quad 2401 0 0 0) ++ even 2 1000)
+    ⟶ events 1 (run (words 3 1 4 3 11529601 1200 0 0 ++ nines 1))
+    -- C140: exactly a half: an interruption and its sag with retained 1
+    ∷ list house 17 (even 2 1000 ++ weave (quad 1 0 0 0) (quad 1 0 0 0) (quad 1 0 0 0)
+    ++ weave (quad 1 0 0 0) (quad 1 0 0 0) (quad 1 0 0 0) ++ even 2 1000)
+    ⟶ events 2 (run (words 1 1 4 3 2 1 47999988 0 ++ words 2 2 3 3 2 1 0 0 ++ nines 1))
+    -- C141: one unit less: 0
+    ∷ list house 17 (even 2 1000 ++ weave (level 4 0) (level 4 0) (level 4 0)
+    ++ weave (quad 1 0 0 0) (quad 1 0 0 0) (quad 1 0 0 0) ++ even 2 1000)
+    ⟶ events 2 (run (words 1 1 4 3 1 0 47999994 0 ++ words 2 2 3 3 1 0 0 0 ++ nines 1))
+    -- C142: exactly 100.5: the half goes upward (severity 0.899, energy 0)
+    ∷ score house (event 1 7 9 3 80802 101 0 0) ⟶ scored 0x3fec_c49b_a5e3_53f8 0x0000_0000_0000_0000 9
+    -- C143: and not downward
+    ∷ score house (event 1 7 9 3 80802 100 0 0) ⟶ unscored 5 40
+    -- C144: one unit of S less (severity 0.9, energy 0)
+    ∷ score house (event 1 7 9 3 80801 100 0 0) ⟶ scored 0x3fec_cccc_cccc_cccd 0x0000_0000_0000_0000 9
+    -- C145: and not upward: the rest, 100.125 x N x R x R, is below the half, 100.25
+    ∷ score house (event 1 7 9 3 80801 101 0 0) ⟶ unscored 5 40
+    -- C146: K7's extreme, 100.501 (severity 0.899, energy 0)
+    ∷ score house (event 1 7 9 3 80804 101 0 0) ⟶ scored 0x3fec_c49b_a5e3_53f8 0x0000_0000_0000_0000 9
+    -- C147: and not the value rounded down
+    ∷ score house (event 1 7 9 3 80804 100 0 0) ⟶ unscored 5 40
+    -- C148: exactly 1.5 (severity 0.998, energy 0)
+    ∷ score house (event 1 7 9 3 18 2 0 0) ⟶ scored 0x3fef_ef9d_b22d_0e56 0x0000_0000_0000_0000 1
+    -- C149: one unit less (severity 0.999, energy 0)
+    ∷ score house (event 1 7 9 3 17 1 0 0) ⟶ scored 0x3fef_f7ce_d916_872b 0x0000_0000_0000_0000 1
+    -- C150: exactly a half (severity 0.999, energy 0)
+    ∷ score house (event 1 7 9 3 2 1 0 0) ⟶ scored 0x3fef_f7ce_d916_872b 0x0000_0000_0000_0000 1
+    -- C151: one unit less (severity 1, energy 0)
+    ∷ score house (event 1 7 9 3 1 0 0 0) ⟶ scored 0x3ff0_0000_0000_0000 0x0000_0000_0000_0000 1
+    -- C152: one unit below the sag threshold: still a sag, though retained is what the threshold is (severity 0.1, energy 0)
+    ∷ score house (event 1 7 9 3 6479999 900 0 0) ⟶ scored 0x3fb9_9999_9999_999a 0x0000_0000_0000_0000 33
+    -- C153: and not the value rounded down
+    ∷ score house (event 1 7 9 3 6479999 899 0 0) ⟶ unscored 5 40
+    -- C154: a swell, exactly 1200.5
+    ∷ score house (event 3 7 9 3 11529602 1201 0 0) ⟶ unscored 4 40
+    -- C155: and not the value rounded down
+    ∷ score house (event 3 7 9 3 11529602 1200 0 0) ⟶ unscored 5 40
+    -- C156: one unit less
+    ∷ score house (event 3 7 9 3 11529601 1200 0 0) ⟶ unscored 4 40
+    -- C157: N 10, R 1001: 100.5 is an S of 101204.6, and the whole number below it has 100 (severity 0.9, energy 0)
+    ∷ score ten (event 1 7 9 3 101204 100 0 0) ⟶ scored 0x3fec_cccc_cccc_cccd 0x0000_0000_0000_0000 9
+    -- C158: the one above it 101 (severity 0.899, energy 0)
+    ∷ score ten (event 1 7 9 3 101205 101 0 0) ⟶ scored 0x3fec_c49b_a5e3_53f8 0x0000_0000_0000_0000 9
+    -- C159: N 512, R 50000: exactly 1999.5, where 4,000,000 x S is beyond 2^64
+    ∷ score (settings 512 50000 50 90 10 110 2) (event 3 7 9 3 5117440320000 2000 0 0) ⟶ unscored 4 40
+    -- C160: one unit less
+    ∷ score (settings 512 50000 50 90 10 110 2) (event 3 7 9 3 5117440319999 1999 0 0) ⟶ unscored 4 40
+    -- C161: and not upward
+    ∷ score (settings 512 50000 50 90 10 110 2) (event 3 7 9 3 5117440319999 2000 0 0) ⟶ unscored 5 40
+    -- C162: the largest S of all
+    ∷ score (settings 512 50000 50 90 10 110 2) (event 3 7 9 3 5120000000000 2000 0 0) ⟶ unscored 4 40
+    ∷ []
+
 -- ---- curve and columns on both sides of every border; the curve shows in the severity
 
 durations : List Case
 durations =
-    -- C132: f 50, h 1: below 2, column 0 (severity 0.8, energy 0.015)
+    -- C163: f 50, h 1: below 2, column 0 (severity 0.8, energy 0.015)
     score house (event 1 7 8 3 320000 200 12000000 4) ⟶ scored 0x3fe9_9999_9999_999a 0x3f8e_b851_eb85_1eb8 8
-    -- C133: f 50, h 2: column 1; the curve is 0 (severity 0.8, energy 0.015)
+    -- C164: f 50, h 2: column 1; the curve is 0 (severity 0.8, energy 0.015)
     ∷ score house (event 1 7 9 3 320000 200 12000000 4) ⟶ scored 0x3fe9_9999_9999_999a 0x3f8e_b851_eb85_1eb8 9
-    -- C134: f 50, h 3: the curve is 500 (severity 1.6, energy 0.015)
+    -- C165: f 50, h 3: the curve is 500 (severity 1.6, energy 0.015)
     ∷ score house (event 1 7 10 3 320000 200 12000000 4) ⟶ scored 0x3ff9_9999_9999_999a 0x3f8e_b851_eb85_1eb8 9
-    -- C135: f 50, h 9: 5h below f, column 1 (severity 1.6, energy 0.015)
+    -- C166: f 50, h 9: 5h below f, column 1 (severity 1.6, energy 0.015)
     ∷ score house (event 1 7 16 3 320000 200 12000000 4) ⟶ scored 0x3ff9_9999_9999_999a 0x3f8e_b851_eb85_1eb8 9
-    -- C136: f 50, h 10: 5h = f, column 2 (severity 1.6, energy 0.015)
+    -- C167: f 50, h 10: 5h = f, column 2 (severity 1.6, energy 0.015)
     ∷ score house (event 1 7 17 3 320000 200 12000000 4) ⟶ scored 0x3ff9_9999_9999_999a 0x3f8e_b851_eb85_1eb8 10
-    -- C137: f 50, h 20: 5h = 2f, the curve is 500 (severity 1.6, energy 0.015)
+    -- C168: f 50, h 20: 5h = 2f, the curve is 500 (severity 1.6, energy 0.015)
     ∷ score house (event 1 7 27 3 320000 200 12000000 4) ⟶ scored 0x3ff9_9999_9999_999a 0x3f8e_b851_eb85_1eb8 10
-    -- C138: f 50, h 21: the curve is 700 (severity 2.6666666666666665, energy 0.015)
+    -- C169: f 50, h 21: the curve is 700 (severity 2.6666666666666665, energy 0.015)
     ∷ score house (event 1 7 28 3 320000 200 12000000 4) ⟶ scored 0x4005_5555_5555_5555 0x3f8e_b851_eb85_1eb8 10
-    -- C139: f 50, h 49: below f, column 2 (severity 2.6666666666666665, energy 0.015)
+    -- C170: f 50, h 49: below f, column 2 (severity 2.6666666666666665, energy 0.015)
     ∷ score house (event 1 7 56 3 320000 200 12000000 4) ⟶ scored 0x4005_5555_5555_5555 0x3f8e_b851_eb85_1eb8 10
-    -- C140: f 50, h 50: h = f, column 3; the curve is 700 (severity 2.6666666666666665, energy 0.015)
+    -- C171: f 50, h 50: h = f, column 3; the curve is 700 (severity 2.6666666666666665, energy 0.015)
     ∷ score house (event 1 7 57 3 320000 200 12000000 4) ⟶ scored 0x4005_5555_5555_5555 0x3f8e_b851_eb85_1eb8 11
-    -- C141: f 50, h 51: the curve is 800 (severity 4, energy 0.015)
+    -- C172: f 50, h 51: the curve is 800 (severity 4, energy 0.015)
     ∷ score house (event 1 7 58 3 320000 200 12000000 4) ⟶ scored 0x4010_0000_0000_0000 0x3f8e_b851_eb85_1eb8 11
-    -- C142: f 50, h 99: below 2f, column 3 (severity 4, energy 0.015)
+    -- C173: f 50, h 99: below 2f, column 3 (severity 4, energy 0.015)
     ∷ score house (event 1 7 106 3 320000 200 12000000 4) ⟶ scored 0x4010_0000_0000_0000 0x3f8e_b851_eb85_1eb8 11
-    -- C143: f 50, h 100: h = 2f, column 4 (severity 4, energy 0.015)
+    -- C174: f 50, h 100: h = 2f, column 4 (severity 4, energy 0.015)
     ∷ score house (event 1 7 107 3 320000 200 12000000 4) ⟶ scored 0x4010_0000_0000_0000 0x3f8e_b851_eb85_1eb8 12
-    -- C144: f 50, h 299: below 6f, column 4 (severity 4, energy 0.015)
+    -- C175: f 50, h 299: below 6f, column 4 (severity 4, energy 0.015)
     ∷ score house (event 1 7 306 3 320000 200 12000000 4) ⟶ scored 0x4010_0000_0000_0000 0x3f8e_b851_eb85_1eb8 12
-    -- C145: f 50, h 300: h = 6f, column 5 (severity 4, energy 0.015)
+    -- C176: f 50, h 300: h = 6f, column 5 (severity 4, energy 0.015)
     ∷ score house (event 1 7 307 3 320000 200 12000000 4) ⟶ scored 0x4010_0000_0000_0000 0x3f8e_b851_eb85_1eb8 13
-    -- C146: f 50, h 1000: h = 20f, the curve is 800 (severity 4, energy 0.015)
+    -- C177: f 50, h 1000: h = 20f, the curve is 800 (severity 4, energy 0.015)
     ∷ score house (event 1 7 1007 3 320000 200 12000000 4) ⟶ scored 0x4010_0000_0000_0000 0x3f8e_b851_eb85_1eb8 13
-    -- C147: f 50, h 1001: the curve is 900 (severity 8, energy 0.015)
+    -- C178: f 50, h 1001: the curve is 900 (severity 8, energy 0.015)
     ∷ score house (event 1 7 1008 3 320000 200 12000000 4) ⟶ scored 0x4020_0000_0000_0000 0x3f8e_b851_eb85_1eb8 13
-    -- C148: f 50, h 1999: below 40f, column 5 (severity 8, energy 0.015)
+    -- C179: f 50, h 1999: below 40f, column 5 (severity 8, energy 0.015)
     ∷ score house (event 1 7 2006 3 320000 200 12000000 4) ⟶ scored 0x4020_0000_0000_0000 0x3f8e_b851_eb85_1eb8 13
-    -- C149: f 50, h 2000: h = 40f, column 6 (severity 8, energy 0.015)
+    -- C180: f 50, h 2000: h = 40f, column 6 (severity 8, energy 0.015)
     ∷ score house (event 1 7 2007 3 320000 200 12000000 4) ⟶ scored 0x4020_0000_0000_0000 0x3f8e_b851_eb85_1eb8 14
-    -- C150: f 50, h 5999: below 120f, column 6 (severity 8, energy 0.015)
+    -- C181: f 50, h 5999: below 120f, column 6 (severity 8, energy 0.015)
     ∷ score house (event 1 7 6006 3 320000 200 12000000 4) ⟶ scored 0x4020_0000_0000_0000 0x3f8e_b851_eb85_1eb8 14
-    -- C151: f 50, h 6000: h = 120f, column 7 (severity 8, energy 0.015)
+    -- C182: f 50, h 6000: h = 120f, column 7 (severity 8, energy 0.015)
     ∷ score house (event 1 7 6007 3 320000 200 12000000 4) ⟶ scored 0x4020_0000_0000_0000 0x3f8e_b851_eb85_1eb8 15
-    -- C152: f 60, h 1: below 2, column 0 (severity 0.8, energy 0.012)
+    -- C183: f 60, h 1: below 2, column 0 (severity 0.8, energy 0.012)
     ∷ score wide (event 1 7 8 3 320000 200 12000000 4) ⟶ scored 0x3fe9_9999_9999_999a 0x3f88_9374_bc6a_7efa 8
-    -- C153: f 60, h 2: column 1; the curve is 0 (severity 0.8, energy 0.012)
+    -- C184: f 60, h 2: column 1; the curve is 0 (severity 0.8, energy 0.012)
     ∷ score wide (event 1 7 9 3 320000 200 12000000 4) ⟶ scored 0x3fe9_9999_9999_999a 0x3f88_9374_bc6a_7efa 9
-    -- C154: f 60, h 3: the curve is 500 (severity 1.6, energy 0.012)
+    -- C185: f 60, h 3: the curve is 500 (severity 1.6, energy 0.012)
     ∷ score wide (event 1 7 10 3 320000 200 12000000 4) ⟶ scored 0x3ff9_9999_9999_999a 0x3f88_9374_bc6a_7efa 9
-    -- C155: f 60, h 11: 5h below f, column 1 (severity 1.6, energy 0.012)
+    -- C186: f 60, h 11: 5h below f, column 1 (severity 1.6, energy 0.012)
     ∷ score wide (event 1 7 18 3 320000 200 12000000 4) ⟶ scored 0x3ff9_9999_9999_999a 0x3f88_9374_bc6a_7efa 9
-    -- C156: f 60, h 12: 5h = f, column 2 (severity 1.6, energy 0.012)
+    -- C187: f 60, h 12: 5h = f, column 2 (severity 1.6, energy 0.012)
     ∷ score wide (event 1 7 19 3 320000 200 12000000 4) ⟶ scored 0x3ff9_9999_9999_999a 0x3f88_9374_bc6a_7efa 10
-    -- C157: f 60, h 24: 5h = 2f, the curve is 500 (severity 1.6, energy 0.012)
+    -- C188: f 60, h 24: 5h = 2f, the curve is 500 (severity 1.6, energy 0.012)
     ∷ score wide (event 1 7 31 3 320000 200 12000000 4) ⟶ scored 0x3ff9_9999_9999_999a 0x3f88_9374_bc6a_7efa 10
-    -- C158: f 60, h 25: the curve is 700 (severity 2.6666666666666665, energy 0.012)
+    -- C189: f 60, h 25: the curve is 700 (severity 2.6666666666666665, energy 0.012)
     ∷ score wide (event 1 7 32 3 320000 200 12000000 4) ⟶ scored 0x4005_5555_5555_5555 0x3f88_9374_bc6a_7efa 10
-    -- C159: f 60, h 59: below f, column 2 (severity 2.6666666666666665, energy 0.012)
+    -- C190: f 60, h 59: below f, column 2 (severity 2.6666666666666665, energy 0.012)
     ∷ score wide (event 1 7 66 3 320000 200 12000000 4) ⟶ scored 0x4005_5555_5555_5555 0x3f88_9374_bc6a_7efa 10
-    -- C160: f 60, h 60: h = f, column 3; the curve is 700 (severity 2.6666666666666665, energy 0.012)
+    -- C191: f 60, h 60: h = f, column 3; the curve is 700 (severity 2.6666666666666665, energy 0.012)
     ∷ score wide (event 1 7 67 3 320000 200 12000000 4) ⟶ scored 0x4005_5555_5555_5555 0x3f88_9374_bc6a_7efa 11
-    -- C161: f 60, h 61: the curve is 800 (severity 4, energy 0.012)
+    -- C192: f 60, h 61: the curve is 800 (severity 4, energy 0.012)
     ∷ score wide (event 1 7 68 3 320000 200 12000000 4) ⟶ scored 0x4010_0000_0000_0000 0x3f88_9374_bc6a_7efa 11
-    -- C162: f 60, h 119: below 2f, column 3 (severity 4, energy 0.012)
+    -- C193: f 60, h 119: below 2f, column 3 (severity 4, energy 0.012)
     ∷ score wide (event 1 7 126 3 320000 200 12000000 4) ⟶ scored 0x4010_0000_0000_0000 0x3f88_9374_bc6a_7efa 11
-    -- C163: f 60, h 120: h = 2f, column 4 (severity 4, energy 0.012)
+    -- C194: f 60, h 120: h = 2f, column 4 (severity 4, energy 0.012)
     ∷ score wide (event 1 7 127 3 320000 200 12000000 4) ⟶ scored 0x4010_0000_0000_0000 0x3f88_9374_bc6a_7efa 12
-    -- C164: f 60, h 359: below 6f, column 4 (severity 4, energy 0.012)
+    -- C195: f 60, h 359: below 6f, column 4 (severity 4, energy 0.012)
     ∷ score wide (event 1 7 366 3 320000 200 12000000 4) ⟶ scored 0x4010_0000_0000_0000 0x3f88_9374_bc6a_7efa 12
-    -- C165: f 60, h 360: h = 6f, column 5 (severity 4, energy 0.012)
+    -- C196: f 60, h 360: h = 6f, column 5 (severity 4, energy 0.012)
     ∷ score wide (event 1 7 367 3 320000 200 12000000 4) ⟶ scored 0x4010_0000_0000_0000 0x3f88_9374_bc6a_7efa 13
-    -- C166: f 60, h 1200: h = 20f, the curve is 800 (severity 4, energy 0.012)
+    -- C197: f 60, h 1200: h = 20f, the curve is 800 (severity 4, energy 0.012)
     ∷ score wide (event 1 7 1207 3 320000 200 12000000 4) ⟶ scored 0x4010_0000_0000_0000 0x3f88_9374_bc6a_7efa 13
-    -- C167: f 60, h 1201: the curve is 900 (severity 8, energy 0.012)
+    -- C198: f 60, h 1201: the curve is 900 (severity 8, energy 0.012)
     ∷ score wide (event 1 7 1208 3 320000 200 12000000 4) ⟶ scored 0x4020_0000_0000_0000 0x3f88_9374_bc6a_7efa 13
-    -- C168: f 60, h 2399: below 40f, column 5 (severity 8, energy 0.012)
+    -- C199: f 60, h 2399: below 40f, column 5 (severity 8, energy 0.012)
     ∷ score wide (event 1 7 2406 3 320000 200 12000000 4) ⟶ scored 0x4020_0000_0000_0000 0x3f88_9374_bc6a_7efa 13
-    -- C169: f 60, h 2400: h = 40f, column 6 (severity 8, energy 0.012)
+    -- C200: f 60, h 2400: h = 40f, column 6 (severity 8, energy 0.012)
     ∷ score wide (event 1 7 2407 3 320000 200 12000000 4) ⟶ scored 0x4020_0000_0000_0000 0x3f88_9374_bc6a_7efa 14
-    -- C170: f 60, h 7199: below 120f, column 6 (severity 8, energy 0.012)
+    -- C201: f 60, h 7199: below 120f, column 6 (severity 8, energy 0.012)
     ∷ score wide (event 1 7 7206 3 320000 200 12000000 4) ⟶ scored 0x4020_0000_0000_0000 0x3f88_9374_bc6a_7efa 14
-    -- C171: f 60, h 7200: h = 120f, column 7 (severity 8, energy 0.012)
+    -- C202: f 60, h 7200: h = 120f, column 7 (severity 8, energy 0.012)
     ∷ score wide (event 1 7 7207 3 320000 200 12000000 4) ⟶ scored 0x4020_0000_0000_0000 0x3f88_9374_bc6a_7efa 15
     ∷ []
 
@@ -789,33 +877,33 @@ durations =
 
 depths : List Case
 depths =
-    -- C172: nothing left: row 0 (severity 1, energy 0)
+    -- C203: nothing left: row 0 (severity 1, energy 0)
     score house (event 1 7 9 3 0 0 1 4) ⟶ scored 0x3ff0_0000_0000_0000 0x0000_0000_0000_0000 1
-    -- C173: exactly 10 percent: row 0 (severity 0.9, energy 0)
+    -- C204: exactly 10 percent: row 0 (severity 0.9, energy 0)
     ∷ score house (event 1 7 9 3 80000 100 1 4) ⟶ scored 0x3fec_cccc_cccc_cccd 0x0000_0000_0000_0000 1
-    -- C174: one unit above: row 1 (severity 0.9, energy 0)
+    -- C205: one unit above: row 1 (severity 0.9, energy 0)
     ∷ score house (event 1 7 9 3 80001 100 1 4) ⟶ scored 0x3fec_cccc_cccc_cccd 0x0000_0000_0000_0000 9
-    -- C175: exactly 40 percent: row 1 (severity 0.6, energy 0)
+    -- C206: exactly 40 percent: row 1 (severity 0.6, energy 0)
     ∷ score house (event 1 7 9 3 1280000 400 1 4) ⟶ scored 0x3fe3_3333_3333_3333 0x0000_0000_0000_0000 9
-    -- C176: one unit above: row 2 (severity 0.6, energy 0)
+    -- C207: one unit above: row 2 (severity 0.6, energy 0)
     ∷ score house (event 1 7 9 3 1280001 400 1 4) ⟶ scored 0x3fe3_3333_3333_3333 0x0000_0000_0000_0000 17
-    -- C177: exactly 70 percent: row 2 (severity 0.3, energy 0)
+    -- C208: exactly 70 percent: row 2 (severity 0.3, energy 0)
     ∷ score house (event 1 7 9 3 3920000 700 1 4) ⟶ scored 0x3fd3_3333_3333_3333 0x0000_0000_0000_0000 17
-    -- C178: one unit above: row 3 (severity 0.3, energy 0)
+    -- C209: one unit above: row 3 (severity 0.3, energy 0)
     ∷ score house (event 1 7 9 3 3920001 700 1 4) ⟶ scored 0x3fd3_3333_3333_3333 0x0000_0000_0000_0000 25
-    -- C179: exactly 85 percent: row 3 (severity 0.15, energy 0)
+    -- C210: exactly 85 percent: row 3 (severity 0.15, energy 0)
     ∷ score house (event 1 7 9 3 5780000 850 1 4) ⟶ scored 0x3fc3_3333_3333_3333 0x0000_0000_0000_0000 25
-    -- C180: one unit above: row 4 (severity 0.15, energy 0)
+    -- C211: one unit above: row 4 (severity 0.15, energy 0)
     ∷ score house (event 1 7 9 3 5780001 850 1 4) ⟶ scored 0x3fc3_3333_3333_3333 0x0000_0000_0000_0000 33
-    -- C181: one unit below the sag threshold: row 4 (severity 0.101, energy 0)
-    ∷ score house (event 1 7 9 3 6479999 899 1 4) ⟶ scored 0x3fb9_db22_d0e5_6042 0x0000_0000_0000_0000 33
-    -- C182: 10 percent is an S of 100200.1, and the whole number below it in row 0 (severity 0.901, energy 0)
-    ∷ score ten (event 1 7 9 3 100200 99 1 4) ⟶ scored 0x3fec_d4fd_f3b6_45a2 0x0000_0000_0000_0000 1
-    -- C183: the one above it in row 1 (severity 0.9, energy 0)
+    -- C212: one unit below the sag threshold: row 4 (severity 0.1, energy 0)
+    ∷ score house (event 1 7 9 3 6479999 900 1 4) ⟶ scored 0x3fb9_9999_9999_999a 0x0000_0000_0000_0000 33
+    -- C213: 10 percent is an S of 100200.1, and the whole number below it in row 0 (severity 0.9, energy 0)
+    ∷ score ten (event 1 7 9 3 100200 100 1 4) ⟶ scored 0x3fec_cccc_cccc_cccd 0x0000_0000_0000_0000 1
+    -- C214: the one above it in row 1 (severity 0.9, energy 0)
     ∷ score ten (event 1 7 9 3 100201 100 1 4) ⟶ scored 0x3fec_cccc_cccc_cccd 0x0000_0000_0000_0000 9
-    -- C184: 70 percent is an S of 4909804.9, and the whole number below it in row 2 (severity 0.301, energy 0)
-    ∷ score ten (event 1 7 9 3 4909804 699 1 4) ⟶ scored 0x3fd3_4395_8106_24dd 0x0000_0000_0000_0000 17
-    -- C185: the one above it in row 3 (severity 0.3, energy 0)
+    -- C215: 70 percent is an S of 4909804.9, and the whole number below it in row 2 (severity 0.3, energy 0)
+    ∷ score ten (event 1 7 9 3 4909804 700 1 4) ⟶ scored 0x3fd3_3333_3333_3333 0x0000_0000_0000_0000 17
+    -- C216: the one above it in row 3 (severity 0.3, energy 0)
     ∷ score ten (event 1 7 9 3 4909805 700 1 4) ⟶ scored 0x3fd3_3333_3333_3333 0x0000_0000_0000_0000 25
     ∷ []
 
@@ -823,25 +911,25 @@ depths =
 
 energies : List Case
 energies =
-    -- C186: no shortfall (severity 1, energy 0)
+    -- C217: no shortfall (severity 1, energy 0)
     score house (event 1 7 10 3 2000000 500 0 4) ⟶ scored 0x3ff0_0000_0000_0000 0x0000_0000_0000_0000 17
-    -- C187: one unit short of a millisecond: 0 (severity 1, energy 0)
+    -- C218: one unit short of a millisecond: 0 (severity 1, energy 0)
     ∷ score house (event 1 7 10 3 2000000 500 799999 4) ⟶ scored 0x3ff0_0000_0000_0000 0x0000_0000_0000_0000 17
-    -- C188: a millisecond (severity 1, energy 0.001)
+    -- C219: a millisecond (severity 1, energy 0.001)
     ∷ score house (event 1 7 10 3 2000000 500 800000 4) ⟶ scored 0x3ff0_0000_0000_0000 0x3f50_624d_d2f1_a9fc 17
-    -- C189: one unit short of two: 1 (severity 1, energy 0.001)
+    -- C220: one unit short of two: 1 (severity 1, energy 0.001)
     ∷ score house (event 1 7 10 3 2000000 500 1599999 4) ⟶ scored 0x3ff0_0000_0000_0000 0x3f50_624d_d2f1_a9fc 17
-    -- C190: the most that three half-cycles can lack (severity 1, energy 0.09)
+    -- C221: the most that three half-cycles can lack (severity 1, energy 0.09)
     ∷ score house (event 1 7 10 3 2000000 500 72000000 4) ⟶ scored 0x3ff0_0000_0000_0000 0x3fb7_0a3d_70a3_d70a 17
-    -- C191: f 60: one unit short of a millisecond (severity 1, energy 0)
+    -- C222: f 60: one unit short of a millisecond (severity 1, energy 0)
     ∷ score wide (event 1 7 10 3 2000000 500 959999 4) ⟶ scored 0x3ff0_0000_0000_0000 0x0000_0000_0000_0000 17
-    -- C192: f 60: a millisecond (severity 1, energy 0.001)
+    -- C223: f 60: a millisecond (severity 1, energy 0.001)
     ∷ score wide (event 1 7 10 3 2000000 500 960000 4) ⟶ scored 0x3ff0_0000_0000_0000 0x3f50_624d_d2f1_a9fc 17
-    -- C193: N 10, R 1001, f 60: 7 milliseconds are 8416808.4, the whole number below is 6 (severity 1.108, energy 0.006)
-    ∷ score ten (event 1 7 10 3 2000000 446 8416808 4) ⟶ scored 0x3ff1_ba5e_353f_7cee 0x3f78_9374_bc6a_7efa 17
-    -- C194: the one above is 7 (severity 1.108, energy 0.007)
-    ∷ score ten (event 1 7 10 3 2000000 446 8416809 4) ⟶ scored 0x3ff1_ba5e_353f_7cee 0x3f7c_ac08_3126_e979 17
-    -- C195: the longest and deepest sag of all: 3000 s (severity 10, energy 3000)
+    -- C224: N 10, R 1001, f 60: 7 milliseconds are 8416808.4, the whole number below is 6 (severity 1.106, energy 0.006)
+    ∷ score ten (event 1 7 10 3 2000000 447 8416808 4) ⟶ scored 0x3ff1_b22d_0e56_0419 0x3f78_9374_bc6a_7efa 17
+    -- C225: the one above is 7 (severity 1.106, energy 0.007)
+    ∷ score ten (event 1 7 10 3 2000000 447 8416809 4) ⟶ scored 0x3ff1_b22d_0e56_0419 0x3f7c_ac08_3126_e979 17
+    -- C226: the longest and deepest sag of all: 3000 s (severity 10, energy 3000)
     ∷ score house (event 1 0 100000 3 0 0 2400000000000 0) ⟶ scored 0x4024_0000_0000_0000 0x40a7_7000_0000_0000 7
     ∷ []
 
@@ -849,86 +937,86 @@ energies =
 
 not-events : List Case
 not-events =
-    -- C196: kind 0
+    -- C227: kind 0
     score house (event 0 7 9 3 20000 50 0 0) ⟶ unscored 5 40
-    -- C197: kind 1, and all else as it must be (severity 0.5, energy 0.015)
+    -- C228: kind 1, and all else as it must be (severity 0.5, energy 0.015)
     ∷ score house (event 1 30 32 3 2000000 500 12000000 4) ⟶ scored 0x3fe0_0000_0000_0000 0x3f8e_b851_eb85_1eb8 17
-    -- C198: kind 2: not a sag
+    -- C229: kind 2: not a sag
     ∷ score house (event 2 7 9 3 20000 50 0 0) ⟶ unscored 4 40
-    -- C199: kind 3: not a sag
+    -- C230: kind 3: not a sag
     ∷ score house (event 3 7 9 3 9680001 1100 0 0) ⟶ unscored 4 40
-    -- C200: kind 4
+    -- C231: kind 4
     ∷ score house (event 4 7 9 3 9680001 1100 0 0) ⟶ unscored 5 40
-    -- C201: start one below end (severity 0.5, energy 0.015)
+    -- C232: start one below end (severity 0.5, energy 0.015)
     ∷ score house (event 1 31 32 3 2000000 500 12000000 4) ⟶ scored 0x3fe0_0000_0000_0000 0x3f8e_b851_eb85_1eb8 16
-    -- C202: start at end
+    -- C233: start at end
     ∷ score house (event 1 32 32 3 2000000 500 0 4) ⟶ unscored 5 40
-    -- C203: start above end
+    -- C234: start above end
     ∷ score house (event 1 33 32 3 2000000 500 0 4) ⟶ unscored 5 40
-    -- C204: start at end, of an interruption
+    -- C235: start at end, of an interruption
     ∷ score house (event 2 9 9 3 20000 50 0 0) ⟶ unscored 5 40
-    -- C205: end 100,000 (severity 0.5, energy 0.015)
+    -- C236: end 100,000 (severity 0.5, energy 0.015)
     ∷ score house (event 1 99998 100000 3 2000000 500 12000000 4)
     ⟶ scored 0x3fe0_0000_0000_0000 0x3f8e_b851_eb85_1eb8 17
-    -- C206: end 100,001
+    -- C237: end 100,001
     ∷ score house (event 1 99999 100001 3 2000000 500 12000000 4) ⟶ unscored 5 40
-    -- C207: seen 4
+    -- C238: seen 4
     ∷ score house (event 1 30 32 4 2000000 500 12000000 4) ⟶ unscored 5 40
-    -- C208: retained one more than that of the extreme
+    -- C239: retained one more than that of the extreme
     ∷ score house (event 1 30 32 3 2000000 501 12000000 4) ⟶ unscored 5 40
-    -- C209: one less
+    -- C240: one less
     ∷ score house (event 1 30 32 3 2000000 499 12000000 4) ⟶ unscored 5 40
-    -- C210: one unit of S below 50 percent: retained 499 (severity 0.501, energy 0.015)
-    ∷ score house (event 1 30 32 3 1999999 499 12000000 4) ⟶ scored 0x3fe0_0831_26e9_78d5 0x3f8e_b851_eb85_1eb8 17
-    -- C211: and not 500
-    ∷ score house (event 1 30 32 3 1999999 500 12000000 4) ⟶ unscored 5 40
-    -- C212: the smallest S with retained 1 (severity 0.999, energy 0.015)
-    ∷ score house (event 1 30 32 3 8 1 12000000 4) ⟶ scored 0x3fef_f7ce_d916_872b 0x3f8e_b851_eb85_1eb8 1
-    -- C213: one unit less: retained 0 (severity 1, energy 0.015)
-    ∷ score house (event 1 30 32 3 7 0 12000000 4) ⟶ scored 0x3ff0_0000_0000_0000 0x3f8e_b851_eb85_1eb8 1
-    -- C214: a sag's extreme one unit below the threshold (severity 0.101, energy 0.015)
-    ∷ score house (event 1 30 32 3 6479999 899 12000000 4) ⟶ scored 0x3fb9_db22_d0e5_6042 0x3f8e_b851_eb85_1eb8 33
-    -- C215: on it
+    -- C241: the smallest S with retained 500 (severity 0.5, energy 0.015)
+    ∷ score house (event 1 30 32 3 1996002 500 12000000 4) ⟶ scored 0x3fe0_0000_0000_0000 0x3f8e_b851_eb85_1eb8 17
+    -- C242: one unit of S less
+    ∷ score house (event 1 30 32 3 1996001 500 12000000 4) ⟶ unscored 5 40
+    -- C243: the largest S with retained 500 (severity 0.5, energy 0.015)
+    ∷ score house (event 1 30 32 3 2004001 500 12000000 4) ⟶ scored 0x3fe0_0000_0000_0000 0x3f8e_b851_eb85_1eb8 17
+    -- C244: one unit more
+    ∷ score house (event 1 30 32 3 2004002 500 12000000 4) ⟶ unscored 5 40
+    -- C245: a sag's extreme one unit below the threshold (severity 0.1, energy 0.015)
+    ∷ score house (event 1 30 32 3 6479999 900 12000000 4) ⟶ scored 0x3fb9_9999_9999_999a 0x3f8e_b851_eb85_1eb8 33
+    -- C246: on it
     ∷ score house (event 1 30 32 3 6480000 900 12000000 4) ⟶ unscored 5 40
-    -- C216: a sag's shortfall 3 x N x R x R x h (severity 0.5, energy 0.06)
+    -- C247: a sag's shortfall 3 x N x R x R x h (severity 0.5, energy 0.06)
     ∷ score house (event 1 30 32 3 2000000 500 48000000 4) ⟶ scored 0x3fe0_0000_0000_0000 0x3fae_b851_eb85_1eb8 17
-    -- C217: one more
+    -- C248: one more
     ∷ score house (event 1 30 32 3 2000000 500 48000001 4) ⟶ unscored 5 40
-    -- C218: type 6 (severity 0.5, energy 0.015)
+    -- C249: type 6 (severity 0.5, energy 0.015)
     ∷ score house (event 1 30 32 3 2000000 500 12000000 6) ⟶ scored 0x3fe0_0000_0000_0000 0x3f8e_b851_eb85_1eb8 17
-    -- C219: type 7
+    -- C250: type 7
     ∷ score house (event 1 30 32 3 2000000 500 12000000 7) ⟶ unscored 5 40
-    -- C220: a swell with a shortfall
+    -- C251: a swell with a shortfall
     ∷ score house (event 3 7 9 3 9680001 1100 1 0) ⟶ unscored 5 40
-    -- C221: a swell with a type
+    -- C252: a swell with a type
     ∷ score house (event 3 7 9 3 9680001 1100 0 1) ⟶ unscored 5 40
-    -- C222: an interruption with a shortfall
+    -- C253: an interruption with a shortfall
     ∷ score house (event 2 7 9 3 20000 50 1 0) ⟶ unscored 5 40
-    -- C223: an interruption with a type
+    -- C254: an interruption with a type
     ∷ score house (event 2 7 9 3 20000 50 0 1) ⟶ unscored 5 40
-    -- C224: extreme N x 10,000,000,000
+    -- C255: extreme N x 10,000,000,000
     ∷ score high (event 3 7 9 3 80000000000 2000 0 0) ⟶ unscored 4 40
-    -- C225: one more
+    -- C256: one more
     ∷ score high (event 3 7 9 3 80000000001 2000 0 0) ⟶ unscored 5 40
-    -- C226: only the start unseen
+    -- C257: only the start unseen
     ∷ score house (event 1 30 32 2 2000000 500 12000000 4) ⟶ unscored 1 40
-    -- C227: only the end unseen
+    -- C258: only the end unseen
     ∷ score house (event 1 30 32 1 2000000 500 12000000 4) ⟶ unscored 2 40
-    -- C228: both unseen
+    -- C259: both unseen
     ∷ score house (event 1 30 32 0 2000000 500 12000000 4) ⟶ unscored 3 40
-    -- C229: a swell with both unseen: not a sag
+    -- C260: a swell with both unseen: not a sag
     ∷ score house (event 3 7 9 0 9680001 1100 0 0) ⟶ unscored 4 40
-    -- C230: an interruption with its end unseen: not a sag
+    -- C261: an interruption with its end unseen: not a sag
     ∷ score house (event 2 7 9 1 20000 50 0 0) ⟶ unscored 4 40
-    -- C231: a swell with a type and both unseen: not an event
+    -- C262: a swell with a type and both unseen: not an event
     ∷ score house (event 3 7 9 0 9680001 1100 0 1) ⟶ unscored 5 40
-    -- C232: a sag of type 7, its start unseen: not an event
+    -- C263: a sag of type 7, its start unseen: not an event
     ∷ score house (event 1 30 32 2 2000000 500 12000000 7) ⟶ unscored 5 40
-    -- C233: N 9 and kind 0: settings bad
+    -- C264: N 9 and kind 0: settings bad
     ∷ score (settings 9 1000 50 90 10 110 2) (event 0 30 32 3 2000000 500 12000000 4) ⟶ unscored 6 40
-    -- C234: N 9 and a swell: settings bad
+    -- C265: N 9 and a swell: settings bad
     ∷ score (settings 9 1000 50 90 10 110 2) (event 3 7 9 0 9680001 1100 0 0) ⟶ unscored 6 40
-    -- C235: N 9 and a sag with both unseen: settings bad
+    -- C266: N 9 and a sag with both unseen: settings bad
     ∷ score (settings 9 1000 50 90 10 110 2) (event 1 30 32 0 2000000 500 12000000 4) ⟶ unscored 6 40
     ∷ []
 
@@ -936,69 +1024,69 @@ not-events =
 
 making : List Case
 making =
-    -- C236: each setting at the lower end of its range: a fresh table
+    -- C267: each setting at the lower end of its range: a fresh table
     fresh (settings 8 1000 50 50 1 105 0) ⟶ taken (site (blank (settings 8 1000 50 50 1 105 0)))
-    -- C237: each at the upper end
+    -- C268: each at the upper end
     ∷ fresh (settings 512 50000 60 95 20 150 5) ⟶ taken (site (blank (settings 512 50000 60 95 20 150 5)))
-    -- C238: within
+    -- C269: within
     ∷ fresh (settings 10 1000 50 51 10 110 2) ⟶ taken (site (blank (settings 10 1000 50 51 10 110 2)))
-    -- C239: N 7
+    -- C270: N 7
     ∷ fresh (settings 7 1000 50 50 1 105 0) ⟶ refused 1 1 (site (blank (settings 0 0 0 0 0 0 0)))
-    -- C240: N 6, even
+    -- C271: N 6, even
     ∷ fresh (settings 6 1000 50 50 1 105 0) ⟶ refused 1 1 (site (blank (settings 0 0 0 0 0 0 0)))
-    -- C241: N 9, odd
+    -- C272: N 9, odd
     ∷ fresh (settings 9 1000 50 90 10 110 2) ⟶ refused 1 1 (site (blank (settings 0 0 0 0 0 0 0)))
-    -- C242: N 511, odd
+    -- C273: N 511, odd
     ∷ fresh (settings 511 1000 50 90 10 110 2) ⟶ refused 1 1 (site (blank (settings 0 0 0 0 0 0 0)))
-    -- C243: N 513
+    -- C274: N 513
     ∷ fresh (settings 513 50000 60 95 20 150 5) ⟶ refused 1 1 (site (blank (settings 0 0 0 0 0 0 0)))
-    -- C244: N 514, even
+    -- C275: N 514, even
     ∷ fresh (settings 514 50000 60 95 20 150 5) ⟶ refused 1 1 (site (blank (settings 0 0 0 0 0 0 0)))
-    -- C245: N 0
+    -- C276: N 0
     ∷ fresh (settings 0 1000 50 90 10 110 2) ⟶ refused 1 1 (site (blank (settings 0 0 0 0 0 0 0)))
-    -- C246: R 999
+    -- C277: R 999
     ∷ fresh (settings 8 999 50 50 1 105 0) ⟶ refused 1 2 (site (blank (settings 0 0 0 0 0 0 0)))
-    -- C247: R 50,001
+    -- C278: R 50,001
     ∷ fresh (settings 512 50001 60 95 20 150 5) ⟶ refused 1 2 (site (blank (settings 0 0 0 0 0 0 0)))
-    -- C248: f 49
+    -- C279: f 49
     ∷ fresh (settings 8 1000 49 90 10 110 2) ⟶ refused 1 3 (site (blank (settings 0 0 0 0 0 0 0)))
-    -- C249: f 51
+    -- C280: f 51
     ∷ fresh (settings 8 1000 51 90 10 110 2) ⟶ refused 1 3 (site (blank (settings 0 0 0 0 0 0 0)))
-    -- C250: f 55
+    -- C281: f 55
     ∷ fresh (settings 8 1000 55 90 10 110 2) ⟶ refused 1 3 (site (blank (settings 0 0 0 0 0 0 0)))
-    -- C251: f 59
+    -- C282: f 59
     ∷ fresh (settings 8 1000 59 90 10 110 2) ⟶ refused 1 3 (site (blank (settings 0 0 0 0 0 0 0)))
-    -- C252: f 61
+    -- C283: f 61
     ∷ fresh (settings 8 1000 61 90 10 110 2) ⟶ refused 1 3 (site (blank (settings 0 0 0 0 0 0 0)))
-    -- C253: sag threshold 49
+    -- C284: sag threshold 49
     ∷ fresh (settings 8 1000 50 49 1 105 0) ⟶ refused 1 4 (site (blank (settings 0 0 0 0 0 0 0)))
-    -- C254: sag threshold 96
+    -- C285: sag threshold 96
     ∷ fresh (settings 512 50000 60 96 20 150 5) ⟶ refused 1 4 (site (blank (settings 0 0 0 0 0 0 0)))
-    -- C255: interruption threshold 0
+    -- C286: interruption threshold 0
     ∷ fresh (settings 8 1000 50 50 0 105 0) ⟶ refused 1 5 (site (blank (settings 0 0 0 0 0 0 0)))
-    -- C256: interruption threshold 21
+    -- C287: interruption threshold 21
     ∷ fresh (settings 512 50000 60 95 21 150 5) ⟶ refused 1 5 (site (blank (settings 0 0 0 0 0 0 0)))
-    -- C257: swell threshold 104
+    -- C288: swell threshold 104
     ∷ fresh (settings 8 1000 50 50 1 104 0) ⟶ refused 1 6 (site (blank (settings 0 0 0 0 0 0 0)))
-    -- C258: swell threshold 151
+    -- C289: swell threshold 151
     ∷ fresh (settings 512 50000 60 95 20 151 5) ⟶ refused 1 6 (site (blank (settings 0 0 0 0 0 0 0)))
-    -- C259: hysteresis 6
+    -- C290: hysteresis 6
     ∷ fresh (settings 512 50000 60 95 20 150 6) ⟶ refused 1 7 (site (blank (settings 0 0 0 0 0 0 0)))
-    -- C260: N and R bad: the first is told
+    -- C291: N and R bad: the first is told
     ∷ fresh (settings 513 999 50 90 10 110 2) ⟶ refused 1 1 (site (blank (settings 0 0 0 0 0 0 0)))
-    -- C261: R and f bad
+    -- C292: R and f bad
     ∷ fresh (settings 8 50001 55 90 10 110 2) ⟶ refused 1 2 (site (blank (settings 0 0 0 0 0 0 0)))
-    -- C262: R and hysteresis bad
+    -- C293: R and hysteresis bad
     ∷ fresh (settings 8 999 50 90 10 110 6) ⟶ refused 1 2 (site (blank (settings 0 0 0 0 0 0 0)))
-    -- C263: f and sag threshold bad
+    -- C294: f and sag threshold bad
     ∷ fresh (settings 8 1000 55 96 10 110 2) ⟶ refused 1 3 (site (blank (settings 0 0 0 0 0 0 0)))
-    -- C264: sag and interruption threshold bad
+    -- C295: sag and interruption threshold bad
     ∷ fresh (settings 8 1000 50 49 21 110 2) ⟶ refused 1 4 (site (blank (settings 0 0 0 0 0 0 0)))
-    -- C265: interruption and swell threshold bad
+    -- C296: interruption and swell threshold bad
     ∷ fresh (settings 8 1000 50 90 0 104 2) ⟶ refused 1 5 (site (blank (settings 0 0 0 0 0 0 0)))
-    -- C266: swell threshold and hysteresis bad
+    -- C297: swell threshold and hysteresis bad
     ∷ fresh (settings 8 1000 50 90 10 151 6) ⟶ refused 1 6 (site (blank (settings 0 0 0 0 0 0 0)))
-    -- C267: all bad
+    -- C298: all bad
     ∷ fresh (settings 0 0 0 0 0 0 9) ⟶ refused 1 1 (site (blank (settings 0 0 0 0 0 0 0)))
     ∷ []
 
@@ -1006,67 +1094,67 @@ making =
 
 sound : List Case
 sound =
-    -- C268: each number as large as it may be beside the total: sound
+    -- C299: each number as large as it may be beside the total: sound
     add (table house 2 1 1 0 (put 17 1 none) 1 2 2 2 48000000) (even 2 1000)
     ⟶ taken (site (table house 3 2 1 0 (put 17 1 none) 1 2 2 2 48000000))
-    -- C269: two interruptions beside one sag: sound
+    -- C300: two interruptions beside one sag: sound
     ∷ add (table house 2 1 1 0 (put 17 1 none) 0 1 2 2 48000000) (even 2 1000)
     ⟶ taken (site (table house 3 2 1 0 (put 17 1 none) 0 1 2 2 48000000))
-    -- C270: and beside none: sound, since no condition speaks of both
+    -- C301: and beside none: sound, since no condition speaks of both
     ∷ add (table house 2 1 1 0 none 0 0 2 2 48000000) (even 2 1000)
     ⟶ taken (site (table house 3 2 1 0 none 0 0 2 2 48000000))
-    -- C271: its settings bad: f 51
+    -- C302: its settings bad: f 51
     ∷ add (table (settings 8 1000 51 90 10 110 2) 2 1 1 0 (put 17 1 none) 1 2 2 2 48000000) (even 2 1000)
     ⟶ refused 9 0 (site (table (settings 8 1000 51 90 10 110 2) 2 1 1 0 (put 17 1 none) 1 2 2 2 48000000))
-    -- C272: a healthy half-cycle too few
+    -- C303: a healthy half-cycle too few
     ∷ add (table house 2 0 1 0 (put 17 1 none) 1 2 2 2 48000000) (even 2 1000)
     ⟶ refused 9 0 (site (table house 2 0 1 0 (put 17 1 none) 1 2 2 2 48000000))
-    -- C273: a disturbed half-cycle too many
+    -- C304: a disturbed half-cycle too many
     ∷ add (table house 2 1 2 0 (put 17 1 none) 1 2 2 2 48000000) (even 2 1000)
     ⟶ refused 9 0 (site (table house 2 1 2 0 (put 17 1 none) 1 2 2 2 48000000))
-    -- C274: an unknown half-cycle too many
+    -- C305: an unknown half-cycle too many
     ∷ add (table house 2 1 1 1 (put 17 1 none) 1 2 2 2 48000000) (even 2 1000)
     ⟶ refused 9 0 (site (table house 2 1 1 1 (put 17 1 none) 1 2 2 2 48000000))
-    -- C275: a total one above its parts
+    -- C306: a total one above its parts
     ∷ add (table house 3 1 1 0 (put 17 1 none) 1 2 2 2 48000000) (even 2 1000)
     ⟶ refused 9 0 (site (table house 3 1 1 0 (put 17 1 none) 1 2 2 2 48000000))
-    -- C276: a sag too many in cell 0
+    -- C307: a sag too many in cell 0
     ∷ add (table house 2 1 1 0 (put 17 1 (put 0 1 none)) 1 2 2 2 48000000) (even 2 1000)
     ⟶ refused 9 0 (site (table house 2 1 1 0 (put 17 1 (put 0 1 none)) 1 2 2 2 48000000))
-    -- C277: a sag too many in cell 39
+    -- C308: a sag too many in cell 39
     ∷ add (table house 2 1 1 0 (put 39 1 (put 17 1 none)) 1 2 2 2 48000000) (even 2 1000)
     ⟶ refused 9 0 (site (table house 2 1 1 0 (put 39 1 (put 17 1 none)) 1 2 2 2 48000000))
-    -- C278: an unplaced sag too few
+    -- C309: an unplaced sag too few
     ∷ add (table house 2 1 1 0 (put 17 1 none) 0 2 2 2 48000000) (even 2 1000)
     ⟶ refused 9 0 (site (table house 2 1 1 0 (put 17 1 none) 0 2 2 2 48000000))
-    -- C279: sags one below cells and unplaced
+    -- C310: sags one below cells and unplaced
     ∷ add (table house 2 1 1 0 (put 17 1 none) 1 1 2 2 48000000) (even 2 1000)
     ⟶ refused 9 0 (site (table house 2 1 1 0 (put 17 1 none) 1 1 2 2 48000000))
-    -- C280: sags one above the total
+    -- C311: sags one above the total
     ∷ add (table house 2 1 1 0 (put 17 1 none) 2 3 2 2 48000000) (even 2 1000)
     ⟶ refused 9 0 (site (table house 2 1 1 0 (put 17 1 none) 2 3 2 2 48000000))
-    -- C281: interruptions one above the total
+    -- C312: interruptions one above the total
     ∷ add (table house 2 1 1 0 (put 17 1 none) 1 2 3 2 48000000) (even 2 1000)
     ⟶ refused 9 0 (site (table house 2 1 1 0 (put 17 1 none) 1 2 3 2 48000000))
-    -- C282: swells one above the total
+    -- C313: swells one above the total
     ∷ add (table house 2 1 1 0 (put 17 1 none) 1 2 2 3 48000000) (even 2 1000)
     ⟶ refused 9 0 (site (table house 2 1 1 0 (put 17 1 none) 1 2 2 3 48000000))
-    -- C283: shortfall one above 3 x N x R x R x total
+    -- C314: shortfall one above 3 x N x R x R x total
     ∷ add (table house 2 1 1 0 (put 17 1 none) 1 2 2 2 48000001) (even 2 1000)
     ⟶ refused 9 0 (site (table house 2 1 1 0 (put 17 1 none) 1 2 2 2 48000001))
-    -- C284: N 10, R 1001: shortfall on its bound
+    -- C315: N 10, R 1001: shortfall on its bound
     ∷ add (table ten 2 1 1 0 (put 17 1 none) 1 2 2 2 60120060) (alike 10 1001 1001 1001)
     ⟶ taken (site (table ten 3 2 1 0 (put 17 1 none) 1 2 2 2 60120060))
-    -- C285: one above
+    -- C316: one above
     ∷ add (table ten 2 1 1 0 (put 17 1 none) 1 2 2 2 60120061) (alike 10 1001 1001 1001)
     ⟶ refused 9 0 (site (table ten 2 1 1 0 (put 17 1 none) 1 2 2 2 60120061))
-    -- C286: room for one half-cycle more: filled to 4,000,000
+    -- C317: room for one half-cycle more: filled to 4,000,000
     ∷ add (healthyOnly 3999999) (even 2 1000) ⟶ taken (site (healthyOnly 4000000))
-    -- C287: a total of 4,000,000 is sound, and full
+    -- C318: a total of 4,000,000 is sound, and full
     ∷ add (healthyOnly 4000000) (even 2 1000) ⟶ refused 8 0 (site (healthyOnly 4000000))
-    -- C288: a total of 4,000,001 is unsound
+    -- C319: a total of 4,000,001 is unsound
     ∷ add (healthyOnly 4000001) (even 2 1000) ⟶ refused 9 0 (site (healthyOnly 4000001))
-    -- C289: a table of zeros is unsound
+    -- C320: a table of zeros is unsound
     ∷ add (blank (settings 0 0 0 0 0 0 0)) (even 2 1000) ⟶ refused 9 0 (site (blank (settings 0 0 0 0 0 0 0)))
     ∷ []
 
@@ -1074,30 +1162,30 @@ sound =
 
 growing : List Case
 growing =
-    -- C290: each number of the table its own, and something of everything added
+    -- C321: each number of the table its own, and something of everything added
     add various (set (even 1 500 ++ even 2 1000 ++ even 2 0 ++ even 2 1000 ++ uneven 1 1000 1300 1000 ++ even 3 1000) 110 lost)
     ⟶ taken (site (table house 10022 5005 3007 2010 (put 1 103 (rising 40 101)) 58 4879 612 714 58234567))
-    -- C291: and a calm recording: only total and healthy grow
+    -- C322: and a calm recording: only total and healthy grow
     ∷ add various (even 4 1000)
     ⟶ taken (site (table house 10015 5006 3001 2008 (rising 40 101) 57 4877 611 713 1234567))
-    -- C292: two sags in two cells, of different rows and columns
+    -- C323: two sags in two cells, of different rows and columns
     ∷ add (blank house) (even 2 1000 ++ uneven 2 1000 899 1000 ++ even 1 1000 ++ uneven 3 1000 1000 100 ++ even 2 1000)
     ⟶ taken (site (table house 9 4 5 0 (put 32 1 (put 1 1 none)) 0 2 0 0 25294392))
-    -- C293: f 60, hysteresis 5: a sag with its cell, and one whose end is unseen
+    -- C324: f 60, hysteresis 5: a sag with its cell, and one whose end is unseen
     ∷ add (blank wide) (even 2 1000 ++ uneven 1 300 450 600 ++ even 2 1000 ++ uneven 1 300 450 600 ++ even 1 1000)
     ⟶ taken (site (table wide 6 2 4 0 (put 25 1 none) 1 2 0 0 27320000))
-    -- C294: N 10, R 1001
+    -- C325: N 10, R 1001
     ∷ add (blank ten) (alike 10 1001 1001 1001 ++ alike 5 300 450 600 ++ alike 10 1001 1001 1001 ++ alike 5 300 450 600
     ++ alike 5 1001 1001 1001)
     ⟶ taken (site (table ten 6 2 4 0 (put 25 1 none) 1 2 0 0 47070060))
-    -- C295: sines
+    -- C326: sines
     ∷ add (blank house) (sines 1000 1000 1000 ++ sines 500 800 1100 ++ sines 1000 1000 1000)
     ⟶ taken (site (table house 5 2 3 0 (put 17 1 none) 0 1 0 0 14887106))
-    -- C296: ten half-cycles fill the table exactly
+    -- C327: ten half-cycles fill the table exactly
     ∷ add (healthyOnly 3999990) (set (even 1 500 ++ even 2 1000 ++ even 2 0 ++ even 2 1000 ++ uneven 1 1000 1300 1000
     ++ even 3 1000) 110 lost)
     ⟶ taken (site (table house 4000000 3999992 6 2 (put 1 1 none) 1 2 1 1 57000000))
-    -- C297: there is room for nine, not for ten
+    -- C328: there is room for nine, not for ten
     ∷ add (healthyOnly 3999991) (set (even 1 500 ++ even 2 1000 ++ even 2 0 ++ even 2 1000 ++ uneven 1 1000 1300 1000
     ++ even 3 1000) 110 lost)
     ⟶ refused 8 9 (site (healthyOnly 3999991))
@@ -1107,89 +1195,89 @@ growing =
 
 lengths : List Case
 lengths =
-    -- C298: no samples: 3
+    -- C329: no samples: 3
     list house 9 [] ⟶ refused 3 0 (run (nines 9))
-    -- C299: one sample: 2 before 3
+    -- C330: one sample: 2 before 3
     ∷ list house 9 (pos 1000 ∷ []) ⟶ refused 2 0 (run (nines 9))
-    -- C300: two samples: 2 before 3
+    -- C331: two samples: 2 before 3
     ∷ list house 9 (pos 1000 ∷ pos 1000 ∷ []) ⟶ refused 2 0 (run (nines 9))
-    -- C301: 8 samples per channel and one more: 2
+    -- C332: 8 samples per channel and one more: 2
     ∷ list house 9 (even 2 1000 ++ pos 1000 ∷ []) ⟶ refused 2 0 (run (nines 9))
-    -- C302: and two more: 2
+    -- C333: and two more: 2
     ∷ list house 9 (even 2 1000 ++ pos 1000 ∷ pos 1000 ∷ []) ⟶ refused 2 0 (run (nines 9))
-    -- C303: 4 samples per channel, a multiple of N/2: 3
+    -- C334: 4 samples per channel, a multiple of N/2: 3
     ∷ list house 9 (even 1 1000) ⟶ refused 3 0 (run (nines 9))
-    -- C304: 7: 3 before 4
+    -- C335: 7: 3 before 4
     ∷ list house 9 (alike 7 1000 1000 1000) ⟶ refused 3 0 (run (nines 9))
-    -- C305: 8: one half-cycle
+    -- C336: 8: one half-cycle
     ∷ list house 9 (even 2 1000) ⟶ events 0 (run (nines 9))
-    -- C306: 9: 4
+    -- C337: 9: 4
     ∷ list house 9 (alike 9 1000 1000 1000) ⟶ refused 4 0 (run (nines 9))
-    -- C307: 11: 4
+    -- C338: 11: 4
     ∷ list house 9 (alike 11 1000 1000 1000) ⟶ refused 4 0 (run (nines 9))
-    -- C308: 12: two half-cycles
+    -- C339: 12: two half-cycles
     ∷ list house 9 (even 3 1000) ⟶ events 0 (run (nines 9))
-    -- C309: added, no samples: 3
+    -- C340: added, no samples: 3
     ∷ add various [] ⟶ refused 3 0 (site various)
-    -- C310: added, one sample: 2 before 3
+    -- C341: added, one sample: 2 before 3
     ∷ add various (pos 1000 ∷ []) ⟶ refused 2 0 (site various)
-    -- C311: added, two samples: 2 before 3
+    -- C342: added, two samples: 2 before 3
     ∷ add various (pos 1000 ∷ pos 1000 ∷ []) ⟶ refused 2 0 (site various)
-    -- C312: added, 8 samples per channel and one more: 2
+    -- C343: added, 8 samples per channel and one more: 2
     ∷ add various (even 2 1000 ++ pos 1000 ∷ []) ⟶ refused 2 0 (site various)
-    -- C313: added, and two more: 2
+    -- C344: added, and two more: 2
     ∷ add various (even 2 1000 ++ pos 1000 ∷ pos 1000 ∷ []) ⟶ refused 2 0 (site various)
-    -- C314: added, 4 samples per channel, a multiple of N/2: 3
+    -- C345: added, 4 samples per channel, a multiple of N/2: 3
     ∷ add various (even 1 1000) ⟶ refused 3 0 (site various)
-    -- C315: added, 7: 3 before 4
+    -- C346: added, 7: 3 before 4
     ∷ add various (alike 7 1000 1000 1000) ⟶ refused 3 0 (site various)
-    -- C316: added, 8: one half-cycle
+    -- C347: added, 8: one half-cycle
     ∷ add various (even 2 1000)
     ⟶ taken (site (table house 10013 5004 3001 2008 (rising 40 101) 57 4877 611 713 1234567))
-    -- C317: added, 9: 4
+    -- C348: added, 9: 4
     ∷ add various (alike 9 1000 1000 1000) ⟶ refused 4 0 (site various)
-    -- C318: added, 11: 4
+    -- C349: added, 11: 4
     ∷ add various (alike 11 1000 1000 1000) ⟶ refused 4 0 (site various)
-    -- C319: added, 12: two half-cycles
+    -- C350: added, 12: two half-cycles
     ∷ add various (even 3 1000)
     ⟶ taken (site (table house 10014 5005 3001 2008 (rising 40 101) 57 4877 611 713 1234567))
-    -- C320: N 10, 9 samples per channel: 3
+    -- C351: N 10, 9 samples per channel: 3
     ∷ list ten 9 (alike 9 300 1001 1001) ⟶ refused 3 0 (run (nines 9))
-    -- C321: 10: one half-cycle
-    ∷ list ten 9 (alike 10 300 1001 1001) ⟶ events 1 (run (words 1 0 1 0 900000 299 9120010 4 ++ nines 1))
-    -- C322: 14: 4
+    -- C352: 10: one half-cycle
+    ∷ list ten 9 (alike 10 300 1001 1001) ⟶ events 1 (run (words 1 0 1 0 900000 300 9120010 4 ++ nines 1))
+    -- C353: 14: 4
     ∷ list ten 9 (alike 14 300 1001 1001) ⟶ refused 4 0 (run (nines 9))
-    -- C323: 15: two half-cycles
-    ∷ list ten 9 (alike 15 300 1001 1001) ⟶ events 1 (run (words 1 0 2 0 900000 299 18240020 4 ++ nines 1))
+    -- C354: 15: two half-cycles
+    ∷ list ten 9 (alike 15 300 1001 1001) ⟶ events 1 (run (words 1 0 2 0 900000 300 18240020 4 ++ nines 1))
     ∷ []
 
 -- ---- refusal 6, and samples on the ends of their range
 
 samples : List Case
 samples =
-    -- C324: all samples 100,000
+    -- C355: all samples 100,000
     list high 9 (even 2 100000) ⟶ events 1 (run (words 3 0 1 0 80000000000 2000 0 0 ++ nines 1))
-    -- C325: all samples -100,000
+    -- C356: all samples -100,000
     ∷ list high 9 (mirror (even 2 100000)) ⟶ events 1 (run (words 3 0 1 0 80000000000 2000 0 0 ++ nines 1))
-    -- C326: 100,001: 6, at its index
+    -- C357: 100,001: 6, at its index
     ∷ list high 9 (set (even 2 50000) 0 (pos 100001)) ⟶ refused 6 0 (run (nines 9))
-    -- C327: -100,001
+    -- C358: -100,001
     ∷ list high 9 (set (even 2 50000) 4 (minus 100001)) ⟶ refused 6 4 (run (nines 9))
-    -- C328: 2,147,483,647
+    -- C359: 2,147,483,647
     ∷ list high 9 (set (even 2 50000) 8 (pos 2147483647)) ⟶ refused 6 8 (run (nines 9))
-    -- C329: -2,147,483,647
+    -- C360: -2,147,483,647
     ∷ list high 9 (set (even 2 50000) 22 (minus 2147483647)) ⟶ refused 6 22 (run (nines 9))
-    -- C330: -2,147,483,648 is missing, and no refusal
+    -- C361: -2,147,483,648 is missing, and no refusal
     ∷ list high 9 (set (even 2 50000) 23 lost) ⟶ events 0 (run (nines 9))
-    -- C331: two of them: the first index
+    -- C362: two of them: the first index
     ∷ list high 9 (set (set (even 2 50000) 20 (pos 100001)) 7 (minus 100001)) ⟶ refused 6 7 (run (nines 9))
-    -- C332: a missing sample before it is none
+    -- C363: a missing sample before it is none
     ∷ list high 9 (set (set (even 2 50000) 7 lost) 20 (pos 100001)) ⟶ refused 6 20 (run (nines 9))
-    -- C333: added: 6, at the last index
+    -- C364: added: 6, at the last index
     ∷ add various (set (even 2 1000) 23 (pos 100001)) ⟶ refused 6 23 (site various)
-    -- C334: added, two of them
+    -- C365: added, two of them
     ∷ add various (set (set (even 2 1000) 13 (minus 100001)) 14 (pos 100001)) ⟶ refused 6 13 (site various)
-    -- C335: added, a single sample of 100,000
+    -- C366: added, a single sample of 100,000
     ∷ add various (set (even 2 1000) 0 (pos 100000))
     ⟶ taken (site (table house 10013 5003 3002 2008 (rising 40 101) 57 4877 611 714 1234567))
     ∷ []
@@ -1198,22 +1286,22 @@ samples =
 
 rooms : List Case
 rooms =
-    -- C336: room 7 for K2: 7, at the number of events
+    -- C367: room 7 for K2: 7, at the number of events
     list house 7 (even 2 1000 ++ even 2 500 ++ even 2 1000) ⟶ refused 7 1 (run (nines 7))
-    -- C337: room 8: accepted, and all of it written
+    -- C368: room 8: accepted, and all of it written
     ∷ list house 8 (even 2 1000 ++ even 2 500 ++ even 2 1000) ⟶ events 1 (run (words 1 1 4 3 2000000 500 36000000 0))
-    -- C338: no room at all
+    -- C369: no room at all
     ∷ list house 0 (even 2 1000 ++ even 2 500 ++ even 2 1000) ⟶ refused 7 1 (run (nines 0))
-    -- C339: no room and no event: accepted
+    -- C370: no room and no event: accepted
     ∷ list house 0 (even 6 1000) ⟶ events 0 (run (nines 0))
-    -- C340: room for one event of two
+    -- C371: room for one event of two
     ∷ list house 8 (even 2 1000 ++ even 2 0 ++ even 2 1000) ⟶ refused 7 2 (run (nines 8))
-    -- C341: room 15 for two events
+    -- C372: room 15 for two events
     ∷ list house 15 (even 2 1000 ++ even 2 0 ++ even 2 1000) ⟶ refused 7 2 (run (nines 15))
-    -- C342: room 16
+    -- C373: room 16
     ∷ list house 16 (even 2 1000 ++ even 2 0 ++ even 2 1000)
     ⟶ events 2 (run (words 1 1 4 3 0 0 48000000 0 ++ words 2 2 3 3 0 0 0 0))
-    -- C343: room 20: the last four numbers stay
+    -- C374: room 20: the last four numbers stay
     ∷ list house 20 (even 2 1000 ++ even 2 0 ++ even 2 1000)
     ⟶ events 2 (run (words 1 1 4 3 0 0 48000000 0 ++ words 2 2 3 3 0 0 0 0 ++ nines 4))
     ∷ []
@@ -1222,38 +1310,38 @@ rooms =
 
 order : List Case
 order =
-    -- C344: f 55, hysteresis 6, length 5, a sample out of range: 1, at f
+    -- C375: f 55, hysteresis 6, length 5, a sample out of range: 1, at f
     list (settings 8 1000 55 90 10 110 6) 7 (pos 100001 ∷ pos 1000 ∷ pos 1000 ∷ pos 1000 ∷ pos 1000 ∷ [])
     ⟶ refused 1 3 (run (nines 7))
-    -- C345: length 5, a sample out of range: 2
+    -- C376: length 5, a sample out of range: 2
     ∷ list house 7 (pos 100001 ∷ pos 1000 ∷ pos 1000 ∷ pos 1000 ∷ pos 1000 ∷ []) ⟶ refused 2 0 (run (nines 7))
-    -- C346: 7 samples per channel, one out of range: 3
+    -- C377: 7 samples per channel, one out of range: 3
     ∷ list house 7 (set (alike 7 1000 1000 1000) 0 (pos 100001)) ⟶ refused 3 0 (run (nines 7))
-    -- C347: 9 samples per channel, one out of range: 4
+    -- C378: 9 samples per channel, one out of range: 4
     ∷ list house 7 (set (alike 9 1000 1000 1000) 0 (pos 100001)) ⟶ refused 4 0 (run (nines 7))
-    -- C348: a sample out of range and too little room: 6
+    -- C379: a sample out of range and too little room: 6
     ∷ list house 7 (set (even 2 1000 ++ even 2 500 ++ even 2 1000) 71 (pos 100001)) ⟶ refused 6 71 (run (nines 7))
-    -- C349: f 55, hysteresis 6 and too little room: 1
+    -- C380: f 55, hysteresis 6 and too little room: 1
     ∷ list (settings 8 1000 55 90 10 110 6) 7 (even 2 1000 ++ even 2 500 ++ even 2 1000) ⟶ refused 1 3 (run (nines 7))
-    -- C350: hysteresis 6 alone: 1, at 7
+    -- C381: hysteresis 6 alone: 1, at 7
     ∷ list (settings 8 1000 50 90 10 110 6) 9 (even 2 1000 ++ even 2 500 ++ even 2 1000) ⟶ refused 1 7 (run (nines 9))
-    -- C351: an unsound table, full, length 5, a sample out of range: 9
+    -- C382: an unsound table, full, length 5, a sample out of range: 9
     ∷ add (table house 4000000 4000000 0 1 none 0 0 0 0 0) (pos 100001 ∷ pos 1000 ∷ pos 1000 ∷ pos 1000 ∷ pos 1000 ∷ [])
     ⟶ refused 9 0 (site (table house 4000000 4000000 0 1 none 0 0 0 0 0))
-    -- C352: an unsound table: 9
+    -- C383: an unsound table: 9
     ∷ add (table house 10012 5003 3001 2009 (rising 40 101) 57 4877 611 713 1234567) (even 2 1000 ++ even 2 500 ++ even 2 1000)
     ⟶ refused 9 0 (site (table house 10012 5003 3001 2009 (rising 40 101) 57 4877 611 713 1234567))
-    -- C353: a full table, length 5, a sample out of range: 2
+    -- C384: a full table, length 5, a sample out of range: 2
     ∷ add (healthyOnly 4000000) (pos 100001 ∷ pos 1000 ∷ pos 1000 ∷ pos 1000 ∷ pos 1000 ∷ [])
     ⟶ refused 2 0 (site (healthyOnly 4000000))
-    -- C354: a full table, 7 samples per channel, one out of range: 3
+    -- C385: a full table, 7 samples per channel, one out of range: 3
     ∷ add (healthyOnly 4000000) (set (alike 7 1000 1000 1000) 0 (pos 100001)) ⟶ refused 3 0 (site (healthyOnly 4000000))
-    -- C355: a full table, 9 samples per channel, one out of range: 4
+    -- C386: a full table, 9 samples per channel, one out of range: 4
     ∷ add (healthyOnly 4000000) (set (alike 9 1000 1000 1000) 0 (pos 100001)) ⟶ refused 4 0 (site (healthyOnly 4000000))
-    -- C356: a full table, a sample out of range: 6
+    -- C387: a full table, a sample out of range: 6
     ∷ add (healthyOnly 4000000) (set (even 2 1000 ++ even 2 500 ++ even 2 1000) 71 (pos 100001))
     ⟶ refused 6 71 (site (healthyOnly 4000000))
-    -- C357: five half-cycles where there is room for four: 8, at 4
+    -- C388: five half-cycles where there is room for four: 8, at 4
     ∷ add (healthyOnly 3999996) (even 2 1000 ++ even 2 500 ++ even 2 1000) ⟶ refused 8 4 (site (healthyOnly 3999996))
     ∷ []
 
@@ -1261,9 +1349,9 @@ order =
 
 cases : List Case
 cases =
-    sags ++ interruptions ++ swells ++ overlaps ++ marks ++ gaps ++ types ++ durations ++ depths ++ energies ++ not-events
-    ++ making ++ sound ++ growing ++ lengths ++ samples ++ rooms ++ order
+    sags ++ interruptions ++ swells ++ overlaps ++ marks ++ gaps ++ types ++ nearest ++ durations ++ depths ++ energies
+    ++ not-events ++ making ++ sound ++ growing ++ lengths ++ samples ++ rooms ++ order
 
 case-answers : map asked-again cases ≡ cases
-unfolding answerTo asked-again cases sags interruptions swells overlaps marks gaps types durations depths energies not-events making sound growing lengths samples rooms order firstBad badSetting settingsGood halvesOf anyMissing squares sumsAt halfAt full carries inRun inEvent starts endOf seenOf extremeOf earliest climb retainedOf shortsOf sixSums typeOf eventFrom eventAt eventsOf inBounds sagGood isEvent reasonOf scoring rowOf columnOf cellOf isHealthy isDisturbed isUnknown isPlaced isUnplaced sagCell sagShortfalls grown isUnsound recordingCheck settingsCheck roomCheck listCheck listed written freshened soundCheck fullCheck addCheck added div ofInt ofBits
+unfolding answerTo asked-again cases sags interruptions swells overlaps marks gaps types nearest durations depths energies not-events making sound growing lengths samples rooms order firstBad badSetting settingsGood halvesOf anyMissing squares sumsAt halfAt full carries inRun inEvent starts endOf seenOf extremeOf earliest climb retainedOf shortsOf sixSums typeOf eventFrom eventAt eventsOf inBounds sagGood isEvent reasonOf scoring rowOf columnOf cellOf isHealthy isDisturbed isUnknown isPlaced isUnplaced sagCell sagShortfalls grown isUnsound recordingCheck settingsCheck roomCheck listCheck listed written freshened soundCheck fullCheck addCheck added div ofInt ofBits
 case-answers = refl

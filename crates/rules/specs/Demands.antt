@@ -80,10 +80,28 @@ pub record Scorable (s : Settings) (e : Event) : Type 0 where
   pub sag : isSag e ≡ true
   pub seen : e .seen ≡ 3
 
--- r is the retained value of S, with m for N x R x R: the largest whole number with r x r x m at most 1,000,000 x S
+-- ---- the retained value of S, with m for N x R x R
+
+-- r is the whole number nearest to 1000 V / R, halves upward: 1000 V / R is at least r - 1/2, which is said of r from 1 on, and
+-- below r + 1/2
 pub record IsRetained (m S r : ℕ) : Type 0 where
-  pub fits : r * r * m ≤ 1000000 * S
-  pub largest : (w : ℕ) → w * w * m ≤ 1000000 * S → w ≤ r
+  pub at-least : 1 ≤ r → (2 * r - 1) * (2 * r - 1) * m ≤ 4000000 * S
+  pub under : 4000000 * S < (2 * r + 1) * (2 * r + 1) * m
+
+-- r is at least as near to 1000 V / R as t, and nearer if t is the larger one: 1000 V / R lies at or above the middle of r and a
+-- smaller t, and below the middle of r and a larger one
+pub record NoFurther (m S r t : ℕ) : Type 0 where
+  pub from-below : t < r → (r + t) * (r + t) * m ≤ 4000000 * S
+  pub from-above : r < t → 4000000 * S < (r + t) * (r + t) * m
+
+-- d is 1000 V / R, rounded down
+pub record IsDown (m S d : ℕ) : Type 0 where
+  pub at-least : d * d * m ≤ 1000000 * S
+  pub under : 1000000 * S < (d + 1) * (d + 1) * m
+
+-- what 1,000,000 x S has over d x d x m, the rest, is at least what (d + 1/2)^2 x m has, the half
+abbrev pub halfOrMore : (m S d : ℕ) → Bool
+halfOrMore m S d = leb ((4 * d + 1) * m) (4 * (1000000 * S - d * d * m))
 
 -- ---- an interruption lies in one sag
 

@@ -116,9 +116,9 @@ earliest h kind start end = firstNot (λ k. not (eqb (level kind (h k)) (extreme
 
 -- ---- retained value
 
--- r x r x N x R x R is at most 1,000,000 x S
-abbrev pub fits : Settings → ℕ → ℕ → Bool
-fits s S r = leb (r * r * full s) (1000000 * S)
+-- 1000 V / R is at least r - 1/2, of r from 1 on: (2r - 1)^2 x N x R x R is at most 4,000,000 x S
+abbrev pub reaches : Settings → ℕ → ℕ → Bool
+reaches s S r = leb ((2 * r - 1) * (2 * r - 1) * full s) (4000000 * S)
 
 -- From k upwards while the next number passes, d steps at most. The Bool says whether the next one does.
 unfoldable pub climb : (ℕ → Bool) → ℕ → Bool → ℕ → ℕ
@@ -126,9 +126,9 @@ climb p zero b k = k
 climb p (suc d) false k = k
 climb p (suc d) true k = climb p d (p (suc (suc k))) (suc k)
 
--- the largest whole number that fits: thousandths of R, rounded down
+-- the whole number nearest to 1000 V / R, halves upward: the largest r that is reached, and 0 where none from 1 on is
 unfoldable pub retainedOf : Settings → ℕ → ℕ
-retainedOf s S = climb (fits s S) (1000000 * S) (fits s S 1) 0
+retainedOf s S = climb (reaches s S) (4000000 * S) (reaches s S 1) 0
 
 -- ---- shortfall
 

@@ -1,5 +1,5 @@
 -- The known answers: one table of cases, one statement. K1 to K12, each a recording; and sags on both sides of the curve's last
--- border, each by its event words.
+-- border and on both sides of a retained value's half, each by its event words.
 use Prim.Native.Nat.{ℕ, _+_, _*_}
 use mathlib.Core.Path.{_≡_, refl}
 use mathlib.Core.List.{List, [], _∷_, _++_, map}
@@ -188,12 +188,12 @@ cases =
       site = after 5 2 3 0 (cell 1) 0 1 1 0 48000000;
       straight = 48000000;
     }
-    -- K7: severity 1.8, energy 0.059
+    -- K7: retained 101, by 100.501; severity 1.798, energy 0.059
     ∷ record {
       given = blocks (1000 ∷ 1000 ∷ 100 ∷ 101 ∷ 1000 ∷ 1000 ∷ []);
       answer = Events 1;
-      run = 1 ∷ 1 ∷ 4 ∷ 3 ∷ 80804 ∷ 100 ∷ 47515176 ∷ 0 ∷ nines 9;
-      scores = bits 0x3ffc_cccc_cccc_cccd 0x3fae_353f_7ced_9168 ∷ [];
+      run = 1 ∷ 1 ∷ 4 ∷ 3 ∷ 80804 ∷ 101 ∷ 47515176 ∷ 0 ∷ nines 9;
+      scores = bits 0x3ffc_c49b_a5e3_53f8 0x3fae_353f_7ced_9168 ∷ [];
       millis = 59 ∷ [];
       rows = 1 ∷ [];
       cells = 9 ∷ [];
@@ -216,7 +216,7 @@ cases =
     ∷ record {
       given = set (blocks (1000 ∷ 1000 ∷ 500 ∷ 500 ∷ 500 ∷ 500 ∷ 1000 ∷ 1000 ∷ [])) 48 (negsuc 2147483647);
       answer = Events 2;
-      run = 1 ∷ 1 ∷ 3 ∷ 1 ∷ 2000000 ∷ 500 ∷ 27000000 ∷ 0 ∷ 1 ∷ 5 ∷ 6 ∷ 2 ∷ 5000000 ∷ 790 ∷ 9000000 ∷ 0 ∷ nines 1;
+      run = 1 ∷ 1 ∷ 3 ∷ 1 ∷ 2000000 ∷ 500 ∷ 27000000 ∷ 0 ∷ 1 ∷ 5 ∷ 6 ∷ 2 ∷ 5000000 ∷ 791 ∷ 9000000 ∷ 0 ∷ nines 1;
       scores = Unscored 2 ∷ Unscored 1 ∷ [];
       millis = 33 ∷ 11 ∷ [];
       rows = 2 ∷ 3 ∷ [];
@@ -280,6 +280,20 @@ at899 h =
       class = 0;
     }
 
+-- K7's sag with another extreme and its retained value
+abbrev near100 : (extreme retained : ℕ) → Event
+near100 extreme retained =
+    record {
+      kind = 1;
+      start = 1;
+      end = 4;
+      seen = 3;
+      extreme = extreme;
+      retained = retained;
+      shortfall = 47515176;
+      class = 0;
+    }
+
 judged : List Judged
 judged =
     -- h = 20 f, by 800: 101 / 200 = 0.505, energy 5.753
@@ -290,6 +304,10 @@ judged =
     ∷ record { under = sixty; event = at899 1200; score = bits 0x3fe0_28f5_c28f_5c29 0x4017_0312_6e97_8d50; cell = 37 }
     -- f 60, h = 20 f + 1, by 900: 1.01, energy 5.758
     ∷ record { under = sixty; event = at899 1201; score = bits 0x3ff0_28f5_c28f_5c29 0x4017_0831_26e9_78d5; cell = 37 }
+    -- exactly 100.5, and the half goes upward: 899 / 500 = 1.798
+    ∷ record { under = settings; event = near100 80802 101; score = bits 0x3ffc_c49b_a5e3_53f8 0x3fae_353f_7ced_9168; cell = 9 }
+    -- one unit of S below it: 900 / 500 = 1.8
+    ∷ record { under = settings; event = near100 80801 100; score = bits 0x3ffc_cccc_cccc_cccd 0x3fae_353f_7ced_9168; cell = 9 }
     ∷ []
 
 known-answers : (map (λ (c : Case). answersTo (c .given)) cases ≡ cases) × (map (λ (c : Judged). judgedOf (c .under) (c .event)) judged ≡ judged)
