@@ -11,6 +11,7 @@ ghost use Rattle.rules.specs.Recorder.{settingsGood};
 ghost use Rattle.rules.specs.Halves.{full};
 ghost use Rattle.rules.specs.Events.{retainedOf};
 ghost use Rattle.rules.specs.Scores.{inBounds, sagGood, isEvent, reasonOf, curveOf, severityOf, energyOf, scoreOf, scoring};
+ghost use Rattle.rules.specs.Demands.{IsDown, halfOrMore};
 ghost use Rattle.rules.specs.Site.{placeOf, rowOf, columnOf, cellAt, cellOf};
 ghost use Rattle.score.specs.Newton.{NotBelow, First, Nearer};
 
@@ -56,12 +57,24 @@ fn root(q: u64) -> u64
     nearer(q, nearer(q, nearer(q, first_guess(q))))
 }
 
-// The retained value of an extreme.
+// Whether 1000 V / R of an extreme, which is d rounded down, is at least d + 1/2, with m for N x R x R. 4,000,000 x S need not fit in
+// 64 bits; four times the rest does.
+fn half_or_more(m: u64, extreme: u64, d: u64) -> bool
+    requires { ⌜ (m ≤ 1280000000000) × (extreme ≤ 5120000000000) × (d ≤ 100000) × IsDown m extreme d ⌝ }
+    ensures { λ r. ⌜ r ≡ halfOrMore m extreme d ⌝ }
+{
+    let rest = 1000000 * extreme - d * d * m;
+    (4 * d + 1) * m <= 4 * rest
+}
+
+// The retained value of an extreme: 1000 V / R to the nearest whole number, halves upward.
 pub fn retained(s: Settings, extreme: u64) -> u64
     requires { ⌜ (settingsGood s ≡ true) × (extreme ≤ s .n * 10000000000) ⌝ }
     ensures { λ r. ⌜ r ≡ retainedOf s extreme ⌝ }
 {
-    root(1000000 * extreme / full_of(s))
+    let m = full_of(s);
+    let d = root(1000000 * extreme / m);
+    d + half_or_more(m, extreme, d) as u64
 }
 
 // Whether each number of an event of any kind is in its range.
