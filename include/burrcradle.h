@@ -16,7 +16,9 @@
  * means "missing".
  *
  * An event is eight numbers (BURR_EVENT): kind (1 sag, 2 interruption, 3 swell), start, end, seen (1 for the start plus 2
- * for the end), extreme, retained, shortfall, type. The last two are 0 for kinds 2 and 3.
+ * for the end), extreme, retained, shortfall, type. The last two are 0 for kinds 2 and 3. The extreme is the smallest sum of a
+ * cycle's squares on one channel, for a swell the largest; retained is its rms value in thousandths of r, to the nearest,
+ * halves upward. Thresholds and rows go by the extreme and not by it: a sag below 90 percent may have retained 900.
  *
  * A site table is 56 numbers (BURR_TABLE), which the host keeps and lends:
  *

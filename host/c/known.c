@@ -64,12 +64,12 @@ static const struct known known[] = {
      {{{1, 1, 4, 3, 0, 0, 48000000, 0}, 0, 1, 2, 0.06}, {{2, 2, 3, 3, 0, 0, 0, 0}, UNSCORED(4)}},
      {5, 2, 3, 0}, 1, 0, {1, 1, 0}, 48000000},
     {"K7", 6, SAME(1000, 1000, 100, 101, 1000, 1000), -1, 1,
-     {{{1, 1, 4, 3, 80804, 100, 47515176, 0}, 0, 9, 1.8, 0.059}},
+     {{{1, 1, 4, 3, 80804, 101, 47515176, 0}, 0, 9, 1.798, 0.059}},
      {5, 2, 3, 0}, 9, 0, {1, 0, 0}, 47515176},
     {"K8", 4, SAME(500, 500, 1000, 1000), -1, 1, {{{1, 0, 2, 2, 2000000, 500, 27000000, 0}, UNSCORED(1)}},
      {3, 1, 2, 0}, 40, 1, {1, 0, 0}, 27000000},
     {"K9", 8, SAME(1000, 1000, 500, 500, 500, 500, 1000, 1000), 4 * BLOCK, 2,
-     {{{1, 1, 3, 1, 2000000, 500, 27000000, 0}, UNSCORED(2)}, {{1, 5, 6, 2, 5000000, 790, 9000000, 0}, UNSCORED(1)}},
+     {{{1, 1, 3, 1, 2000000, 500, 27000000, 0}, UNSCORED(2)}, {{1, 5, 6, 2, 5000000, 791, 9000000, 0}, UNSCORED(1)}},
      {7, 2, 3, 2}, 40, 2, {2, 0, 0}, 36000000},
     {"K10", AROUND(1200), -1, 1, {{{3, 1, 4, 3, 11520000, 1200, 0, 0}, UNSCORED(4)}},
      {5, 2, 3, 0}, 40, 0, {0, 0, 1}, 0},
@@ -82,22 +82,29 @@ static const struct known known[] = {
 
 #define CASES (sizeof known / sizeof known[0])
 
-/* Sags at 899 on all channels, by their words alone, on both sides of the curve's last step: it stands at 800 while they last
-   at most 20 f half-cycles, and at 900 after that. */
-struct lasting {
+/* Sags by their words alone. At 899 on all channels, on both sides of the curve's last step: it stands at 800 while they last
+   at most 20 f half-cycles, and at 900 after that. Then on both sides of a retained value's half, and each with the value that
+   its extreme does not have. */
+struct judged {
     const char *name;
     const uint64_t *settings;
     struct answer answer;
 };
 
-static const struct lasting lasting[] = {
+static const struct judged judged[] = {
     {"50 Hz, 1000 half-cycles", settings, {{1, 7, 1007, 3, 6465608, 899, 4603176000, 0}, 0, 37, 0.505, 5.753}},
     {"50 Hz, 1001 half-cycles", settings, {{1, 7, 1008, 3, 6465608, 899, 4607779176, 0}, 0, 37, 1.01, 5.759}},
     {"60 Hz, 1200 half-cycles", sixty, {{1, 7, 1207, 3, 6465608, 899, 5523811200, 0}, 0, 37, 0.505, 5.753}},
     {"60 Hz, 1201 half-cycles", sixty, {{1, 7, 1208, 3, 6465608, 899, 5528414376, 0}, 0, 37, 1.01, 5.758}},
+    {"exactly 100.5", settings, {{1, 1, 4, 3, 80802, 101, 47515188, 0}, 0, 9, 1.798, 0.059}},
+    {"exactly 100.5, downward", settings, {{1, 1, 4, 3, 80802, 100, 47515188, 0}, UNSCORED(5)}},
+    {"a unit of S below 100.5", settings, {{1, 1, 4, 3, 80801, 100, 47515194, 0}, 0, 9, 1.8, 0.059}},
+    {"a unit of S below 100.5, upward", settings, {{1, 1, 4, 3, 80801, 101, 47515194, 0}, UNSCORED(5)}},
+    {"a unit of S below the sag threshold", settings, {{1, 1, 4, 3, 6479999, 900, 4560003, 0}, 0, 33, 0.2, 0.005}},
+    {"a unit of S below the sag threshold, downward", settings, {{1, 1, 4, 3, 6479999, 899, 4560003, 0}, UNSCORED(5)}},
 };
 
-#define LASTING (sizeof lasting / sizeof lasting[0])
+#define JUDGED (sizeof judged / sizeof judged[0])
 
 static int wrong = 0;
 
@@ -297,8 +304,8 @@ int main(void)
         list(&known[i]);
         site(&known[i]);
     }
-    for (size_t i = 0; i < LASTING; i++)
-        ask(lasting[i].name, lasting[i].settings, &lasting[i].answer);
+    for (size_t i = 0; i < JUDGED; i++)
+        ask(judged[i].name, judged[i].settings, &judged[i].answer);
     turned_away();
     bad_settings();
     bad_tables();

@@ -1,5 +1,5 @@
 //! The known answers K1 to K12, through every function of the proved library, and the scores on both sides of the curve's last
-//! step. The numbers are those of the rules.
+//! step and of a retained value's half. The numbers are those of the rules.
 mod common;
 use common::{blocks, blocks_of, dip, BLOCK, MISSING, SETTINGS};
 use host::{add, cell, fresh, list, reason, score, Event, Score, Settings, TABLE};
@@ -114,7 +114,7 @@ fn k6() {
 
 #[test]
 fn k7() {
-    let sag = scored([1, 1, 4, 3, 80804, 100, 47515176, 0], 9, 1.8, 0.059);
+    let sag = scored([1, 1, 4, 3, 80804, 101, 47515176, 0], 9, 1.798, 0.059);
     let samples = blocks(&[1000, 1000, 100, 101, 1000, 1000]);
     known(&samples, &[sag], Site { cell: 9, sags: 1, shortfall: 47515176, ..site(5, 2, 3) });
 }
@@ -129,7 +129,7 @@ fn k8() {
 #[test]
 fn k9() {
     let first = unscored([1, 1, 3, 1, 2000000, 500, 27000000, 0], 2);
-    let second = unscored([1, 5, 6, 2, 5000000, 790, 9000000, 0], 1);
+    let second = unscored([1, 5, 6, 2, 5000000, 791, 9000000, 0], 1);
     let mut samples = blocks(&[1000, 1000, 500, 500, 500, 500, 1000, 1000]);
     samples[4 * BLOCK] = MISSING;
     let after = Site { unknown: 2, unplaced: 2, sags: 2, shortfall: 36000000, ..site(7, 2, 3) };
@@ -178,6 +178,35 @@ fn the_last_step_of_the_curve() {
     asked(&SETTINGS, &scored(at_899(1001), 37, 1.01, 5.759));
     asked(&sixty, &scored(at_899(1200), 37, 0.505, 5.753));
     asked(&sixty, &scored(at_899(1201), 37, 1.01, 5.758));
+}
+
+/// Four samples, the same on all channels.
+fn block(four: [i32; 4]) -> Vec<i32> {
+    four.iter().flat_map(|sample| [*sample; 3]).collect()
+}
+
+/// 201 squared, twice, is 80802: exactly 100.5, which goes upward. 200 and 20 squared are one unit less, and 100 is the nearest.
+#[test]
+fn a_retained_half_goes_upward() {
+    let on_it = block([201, 0, 0, 0]);
+    let below = block([200, 20, 0, 0]);
+    for (second, extreme, retained, shortfall, severity) in
+        [(&on_it, 80802, 101, 47515188, 1.798), (&below, 80801, 100, 47515194, 1.8)]
+    {
+        let samples = [&blocks(&[1000, 1000]), &on_it, second, &blocks(&[1000, 1000])].map(|part| &part[..]).concat();
+        let sag = scored([1, 1, 4, 3, extreme, retained, shortfall, 0], 9, severity, 0.059);
+        known(&samples, &[sag], Site { cell: 9, sags: 1, shortfall, ..site(5, 2, 3) });
+    }
+}
+
+/// Words whose retained value is not the nearest are not an event; one unit of S below the threshold is a sag all the same.
+#[test]
+fn another_retained_value_is_not_an_event() {
+    let sag = |extreme: u64, retained: u64| [1, 1, 4, 3, extreme, retained, 4560003, 0];
+    for (extreme, retained) in [(80802, 100), (80802, 102), (80801, 101), (80804, 100), (6479999, 899)] {
+        asked(&SETTINGS, &unscored(sag(extreme, retained), 5));
+    }
+    asked(&SETTINGS, &scored(sag(6479999, 900), 33, 0.2, 0.005));
 }
 
 #[test]
