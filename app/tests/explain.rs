@@ -57,7 +57,7 @@ fn the_curve_is_the_rules() {
         let told = explained("explain-curve", &blocks(&levels));
         if lasts == 2 {
             // One block alone never fills a window.
-            says(&told, &["/ (1000 - 0) = 0.176: retained 824, and 0 is the curve's value for 2 half-cycles"]);
+            says(&told, &["/ (1000 - 0) = 0.175: retained 825, and 0 is the curve's value for 2 half-cycles"]);
             continue;
         }
         let wanted = format!(
@@ -75,7 +75,8 @@ fn the_landing_has_its_hysteresis() {
         &told,
         &[
             "half-cycle 1 (at 0.010 s): a, b and c are below 90 % of R (a 89.9 %, b 89.9 %, c 89.9 %)",
-            "peak     half-cycle 1 (at 0.010 s): the smallest sum of squares, 6465608, on a, b and c; retained 899 = 89.9 % of R",
+            "peak     half-cycle 1 (at 0.010 s): the smallest sum of squares, 6465608, on a, b and c; retained 899 = 89.9 % of R, \
+             rounded to the nearest, halves upward; type A",
             "landing  half-cycle 5 (at 0.050 s): all channels are back at 92 % of R or more (90 + hysteresis 2): a 92.0 %, \
              b 92.0 %, c 92.0 %; it is known, so the end is seen. Lasted 4 half-cycles = 0.040 s.",
             "severity (1000 - 899) / (1000 - 500) = 0.202",
@@ -84,26 +85,54 @@ fn the_landing_has_its_hysteresis() {
     );
 }
 
-/// K7: the row goes by the exact sum, where the rounded figure would say a deeper one.
+/// Between blocks of 1000, a block of these four samples on all channels, and another.
+fn amid(first: [i32; 4], second: [i32; 4]) -> Vec<i32> {
+    let healthy = blocks(&[1000, 1000]);
+    let low: Vec<i32> = [first, second].concat().iter().flat_map(|sample| [*sample; 3]).collect();
+    [&healthy[..], &low, &healthy].concat()
+}
+
+/// 201 squared, twice, is 80802, which is 100.5 exactly: upward. One unit of S less has 100, and the row goes by the exact sum,
+/// where the rounded figure would say a deeper one. K7 has 100.501, which is 101, and there the two agree.
 #[test]
 fn the_row_goes_by_exact_sums() {
-    let told = explained("explain-k7", &blocks(&[1000, 1000, 100, 101, 1000, 1000]));
+    let k7 = explained("explain-k7", &blocks(&[1000, 1000, 100, 101, 1000, 1000]));
+    says(&k7, &["80804, on a, b and c; retained 101 = 10.1 %", "cell 9: row 1 (10 to 40 %), column 1 (< 0.1 s)."]);
+    let half = explained("explain-half", &amid([201, 0, 0, 0], [0, 201, 0, 0]));
+    says(&half, &["80802, on a, b and c; retained 101 = 10.1 %", "cell 9: row 1 (10 to 40 %), column 1 (< 0.1 s)."]);
     says(
-        &told,
-        &["cell 9: row 1 (10 to 40 %) and not row 0 (at most 10 %), as the rounded 100 would have it: the exact \
-             10000 x 80804 = 808040000 is more than 10 x 10 x 8 x 1000 x 1000 = 800000000, column 1 (< 0.1 s)."],
+        &explained("explain-below-half", &amid([201, 0, 0, 0], [200, 20, 0, 0])),
+        &[
+            "80801, on a, b and c; retained 100 = 10.0 % of R, rounded to the nearest, halves upward; type A",
+            "cell 9: row 1 (10 to 40 %) and not row 0 (at most 10 %), as the rounded 100 would have it: the exact \
+             10000 x 80801 = 808010000 is more than 10 x 10 x 8 x 1000 x 1000 = 800000000, column 1 (< 0.1 s).",
+        ],
     );
     let on_the_border = explained("explain-row-border", &blocks(&[1000, 1000, 100, 100, 1000, 1000]));
     says(&on_the_border, &["cell 1: row 0 (at most 10 %), column 1 (< 0.1 s)."]);
 }
 
-/// A value beside a border is never shown as if it were on it.
+/// A value beside a border is never shown as if it were on it: one sample of 899 among 900 makes 899.9, which is 900 to the
+/// nearest, and a sag; one of 1101 among 1100 makes 1100.1, and a swell.
 #[test]
 fn rounding_does_not_hide_which_side_it_is() {
     let mut samples = blocks(&[1000, 1000, 900, 900, 1000, 1000]);
     samples[24] = 899;
-    let told = explained("explain-digits", &samples);
-    says(&told, &["a is below 90 % of R (a 89.99 %, b 90.0 %, c 90.0 %)"]);
+    says(
+        &explained("explain-digits", &samples),
+        &[
+            "a is below 90 % of R (a 89.99 %, b 90.0 %, c 90.0 %)",
+            "6478201, on a; retained 900 = 90.0 % of R, rounded to the nearest, halves upward, and still below 90 %: the exact \
+             10000 x 6478201 = 64782010000 is less than 90 x 90 x 8 x 1000 x 1000 = 64800000000; type Ca",
+        ],
+    );
+    let mut samples = blocks(&[1000, 1000, 1100, 1100, 1000, 1000]);
+    samples[24] = 1101;
+    says(
+        &explained("explain-above", &samples),
+        &["9682201, on a; retained 1100 = 110.0 % of R, rounded to the nearest, halves upward, and still above 110 %: the \
+             exact 10000 x 9682201 = 96822010000 is more than 110 x 110 x 8 x 1000 x 1000 = 96800000000."],
+    );
 }
 
 /// K12: only a drops. Nothing that is said is false of it.

@@ -94,9 +94,11 @@ burrcradle list RECORDING... (--site SITE | --n N --r R --f F [--sag 90] [--inte
                 [--hysteresis 2]) [--cut] [--raw] [--room NUMBERS] [--json | --csv]
 
 Lists the events of recordings with their scores. Half-cycles are numbered from 0 in the whole recording, also where it is cut;
-an event goes from start up to but not with end, and begins at so many seconds. In CSV each row has its recording's total,
-healthy, disturbed and unknown half-cycles, the column cut says which ends a cut has taken (1 the start, 2 the end, 3 both),
-and a recording without events has one row of kind 0, none.
+an event goes from start up to but not with end, and begins at so many seconds. Its retained value is in thousandths of R, to
+the nearest, halves upward; thresholds and rows go by the extreme, the exact sum, and not by it.
+
+In CSV each row has its recording's total, healthy, disturbed and unknown half-cycles, the column cut says which ends a cut has
+taken (1 the start, 2 the end, 3 both), and a recording without events has one row of kind 0, none.
 
     --site    takes the settings of a site
     --cut     cuts a recording of more than 100,000 half-cycles into parts, between events, so that each keeps its score.

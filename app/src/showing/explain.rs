@@ -67,12 +67,18 @@ fn misses(missing: [usize; 3]) -> String {
     words::and(&lost.iter().map(String::as_str).collect::<Vec<_>>())
 }
 
+/// On which side of its threshold a channel launches an event of this kind.
+fn side(kind: u64) -> &'static str {
+    if kind == 3 {
+        "above"
+    } else {
+        "below"
+    }
+}
+
 fn launch(s: &Settings, event: &Found, close: &Close, taken: Taken) -> String {
-    let [border, _] = borders(s, event.kind);
-    let (lies, side) = match event.kind {
-        3 => (Ordering::is_gt as fn(Ordering) -> bool, "above"),
-        _ => (Ordering::is_lt as fn(Ordering) -> bool, "below"),
-    };
+    let ([border, _], side) = (borders(s, event.kind), side(event.kind));
+    let lies = if event.kind == 3 { Ordering::is_gt } else { Ordering::is_lt };
     let (which, stands) = (which(s, close.launch, border, lies), stands(s, event.kind, close.launch));
     let before = match close.before {
         Half::Beyond => "the recording begins there, so the start is unseen and may lie earlier".into(),
@@ -93,14 +99,43 @@ fn peak(s: &Settings, event: &Found, close: &Close) -> String {
         let on = CHANNELS.into_iter().zip(sums).filter(|(_, sum)| *sum == event.extreme);
         (format!("{}: ", at(s, k)), format!(", on {}", words::and(&on.map(|(name, _)| name).collect::<Vec<_>>())))
     });
-    let retained = format!("{}.{} % of R, rounded down", event.retained / 10, event.retained % 10);
+    let retained = retained(s, event);
     let class = match event.kind {
         1 => format!("; type {}: {}", words::class(event.class), words::class_told(event.class)),
         _ => String::new(),
     };
+    format!("{place}the {which} sum of squares, {}{channel}; {retained}{class}.", event.extreme)
+}
+
+/// The retained value, and where it is rounded onto the threshold, the exact sums that make it an event all the same.
+fn retained(s: &Settings, event: &Found) -> String {
+    let ([border, _], thousandths) = (borders(s, event.kind), event.retained);
+    let told = format!(
+        "retained {thousandths} = {}.{} % of R, rounded to the nearest, halves upward",
+        thousandths / 10,
+        thousandths % 10
+    );
+    if thousandths != 10 * border {
+        return told;
+    }
+    format!("{told}, and still {} {border} %: {}", side(event.kind), exactly(s, event.extreme, border))
+}
+
+/// Where an extreme lies to a percent of R, exactly: `the exact 10000 x 80801 = 808010000 is more than 10 x 10 x 8 x 1000 x 1000
+/// = 800000000`.
+fn exactly(s: &Settings, extreme: u64, percent: u64) -> String {
+    let lies = match against(s, extreme, percent) {
+        Ordering::Less => "less than",
+        Ordering::Equal => "equal to",
+        Ordering::Greater => "more than",
+    };
     format!(
-        "{place}the {which} sum of squares, {}{channel}; retained {} = {retained}{class}.",
-        event.extreme, event.retained
+        "the exact 10000 x {extreme} = {} is {lies} {percent} x {percent} x {} x {} x {} = {}",
+        10_000 * u128::from(extreme),
+        s.n,
+        s.r,
+        s.r,
+        u128::from(percent).pow(2) * reference(s)
     )
 }
 
@@ -154,27 +189,19 @@ fn score(s: &Settings, event: &Found, close: &Close, taken: Taken) -> String {
     )
 }
 
-/// The row, and where the rounded figure would say another one, the exact sums that decide.
+/// The row, and where the rounded figure would say another one, the exact sums that decide. That one is the deeper: a value is
+/// rounded onto a border from both sides, and the border belongs to the deeper row.
 fn row(s: &Settings, event: &Found) -> String {
-    let (row, told) = (event.cell as usize / 8, words::row(event.cell));
+    let told = words::row(event.cell);
     let rounded = words::ROW_BORDERS.iter().filter(|border| event.retained > 10 * **border).count();
-    if rounded == row {
+    if rounded == event.cell as usize / 8 {
         return told;
     }
-    let (border, lies) = match rounded < row {
-        true => (words::ROW_BORDERS[row - 1], "more than"),
-        false => (words::ROW_BORDERS[row], "at most"),
-    };
     format!(
-        "{told} and not {}, as the rounded {} would have it: the exact 10000 x {} = {} is {lies} {border} x {border} x {} x {} x {} = {}",
+        "{told} and not {}, as the rounded {} would have it: {}",
         words::row(8 * rounded as u64),
         event.retained,
-        event.extreme,
-        10_000 * u128::from(event.extreme),
-        s.n,
-        s.r,
-        s.r,
-        u128::from(border).pow(2) * reference(s)
+        exactly(s, event.extreme, words::ROW_BORDERS[rounded])
     )
 }
 

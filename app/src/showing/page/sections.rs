@@ -56,8 +56,9 @@ const HATCH: &str = "<svg class=\"defs\" aria-hidden=\"true\"><defs><pattern id=
 
 const FOOT: &str = "<footer>Events, scores, reasons, cells and counts are the proved library's answers. The curves are drawn \
                     from the samples. Durations are half-cycles / 2f; a shortfall in seconds is shortfall / (N x R x R x 2f), \
-                    in whole milliseconds, rounded down. A recording's SHA-256 is what <code>sha256sum</code> says of its \
-                    file.</footer>\n";
+                    in whole milliseconds, rounded down. A retained value is the nearest tenth of a percent of R, \
+                    halves upward; thresholds and rows go by exact sums and not by it. A recording's SHA-256 is what \
+                    <code>sha256sum</code> says of its file.</footer>\n";
 
 fn tile(value: &str, label: &str, more: &str) -> String {
     format!("<div class=\"tile\"><b>{}</b><span>{}</span><i>{}</i></div>", esc(value), esc(label), esc(more))
