@@ -102,6 +102,24 @@ fn events_and_cells_are_the_librarys() {
     }
 }
 
+/// A sag one sample below 90 percent is 90.0 percent to the nearest tenth, K9's second one 79.1: the page says how it rounds, and
+/// that nothing is decided by it.
+#[test]
+fn a_retained_value_has_its_tenth() {
+    let folder = Folder::new("report-tenth");
+    let mut samples = blocks(&[1000, 1000, 900, 900, 1000, 1000]);
+    samples[24] = 899;
+    folder.write("k.csv", csv(&samples));
+    folder.write("k9.csv", csv(&gap()));
+    let page = page(&folder, &["k.csv", "k9.csv"]);
+    for retained in ["90.0 %", "50.0 %", "79.1 %"] {
+        assert_eq!(page.matches(&format!("<td>{retained}</td>")).count(), 1, "{retained}");
+    }
+    assert!(
+        page.contains("A retained value is the nearest tenth of a percent of R, halves upward; thresholds and rows")
+    );
+}
+
 /// The drawing of depth against duration.
 fn scatter(page: &str) -> &str {
     page.split_once("Depth against duration").unwrap().1.split_once("</svg>").unwrap().0

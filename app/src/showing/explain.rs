@@ -111,9 +111,8 @@ fn peak(s: &Settings, event: &Found, close: &Close) -> String {
 fn retained(s: &Settings, event: &Found) -> String {
     let ([border, _], thousandths) = (borders(s, event.kind), event.retained);
     let told = format!(
-        "retained {thousandths} = {}.{} % of R, rounded to the nearest, halves upward",
-        thousandths / 10,
-        thousandths % 10
+        "retained {thousandths} = {} of R, rounded to the nearest, halves upward",
+        words::retained(thousandths)
     );
     if thousandths != 10 * border {
         return told;

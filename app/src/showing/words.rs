@@ -164,6 +164,11 @@ pub fn shortfall_seconds(s: &Settings, shortfall: u64) -> String {
     format!("{}.{:03}", ms / 1000, ms % 1000)
 }
 
+/// A retained value in percent of R, always with its tenth: `90.0 %` is rounded, where a threshold of 90 % is exact.
+pub fn retained(thousandths: u64) -> String {
+    format!("{}.{} %", thousandths / 10, thousandths % 10)
+}
+
 /// The settings in one line.
 pub fn settings(s: &Settings) -> String {
     format!(

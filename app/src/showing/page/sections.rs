@@ -2,7 +2,7 @@
 use super::{
     contents::{Contents, Shown},
     rms, scatter,
-    svg::{at, esc},
+    svg::esc,
     table as drawn,
 };
 use crate::{
@@ -269,11 +269,11 @@ fn event_row(s: &Settings, number: usize, event: &Found, cut: &str) -> String {
     };
     format!(
         "<tr><td>{number}</td><td><b class=\"{kind}\">{kind}</b>{class}</td><td>{}</td><td>{}</td><td>{}</td><td>{}</td>\
-         <td>{} %</td><td>{severity}</td><td>{energy}</td><td>{last}</td></tr>\n",
+         <td>{}</td><td>{severity}</td><td>{energy}</td><td>{last}</td></tr>\n",
         when(event.start),
         when(event.end),
         words::seconds(event.halves(), s.f),
         words::seen(event.seen),
-        at(event.retained as f64 / 10.0),
+        words::retained(event.retained),
     )
 }
