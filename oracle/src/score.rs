@@ -15,10 +15,15 @@ pub fn retained(s: &Settings, sum: u64) -> u64 {
     (0..17).rev().fold(0, |r, bit| if reached(r + (1 << bit)) { r + (1 << bit) } else { r })
 }
 
-/// The smallest sum with this retained value, the exact half if it is a whole number: where a comparison has to look.
+/// The smallest sum with 1000 V / R at least so many halves: where a comparison has to look. At an even number of them the value
+/// rounded down changes, at an odd number the nearest.
+pub fn sum_at(s: &Settings, halves: u64) -> u64 {
+    (u128::from(halves).pow(2) * reference(s)).div_ceil(4_000_000) as u64
+}
+
+/// The smallest sum with this retained value.
 pub fn first_sum(s: &Settings, retained: u64) -> u64 {
-    let twice = u128::from((2 * retained).saturating_sub(1));
-    (twice * twice * reference(s)).div_ceil(4_000_000) as u64
+    sum_at(s, (2 * retained).saturating_sub(1))
 }
 
 /// Why the event has no score: 0 where it has one.

@@ -1,7 +1,7 @@
 //! The known answers K1 to K12 of the rules, sags on both sides of the curve's last step, and each retained value at both of its
 //! ends, held against the second program, its linear and its swift form, and the proved library.
 use oracle::recording::MISSING;
-use oracle::score::first_sum;
+use oracle::score::{first_sum, sum_at};
 use oracle::site::at;
 use oracle::{Event, Refused, Settings, Table, TABLE};
 
@@ -218,15 +218,18 @@ fn beyond_10_seconds_severity_doubles() {
     }
 }
 
-/// The first and the last sum of each retained value that a recording can have: that value makes an event, the next ones on
-/// either side do not. A swell, so that only the retained value decides between reason 4 and 5.
+/// The first and the last sum of each retained value that a recording can have, and the two at the whole number between them: that
+/// value makes an event, the next ones on either side do not. A swell, so that only the retained value decides between reason 4
+/// and 5.
 #[test]
 fn each_retained_value_at_both_ends() {
     for (n, r) in [(8, 1_000), (10, 7_001), (256, 10_000), (512, 50_000)] {
         let s = Settings { n, r, ..SETTINGS };
         let greatest = n * 10_000_000_000;
         for value in 0..=(100_000_000 + r / 2) / r {
-            for sum in [first_sum(&s, value), (first_sum(&s, value + 1) - 1).min(greatest)] {
+            let whole = sum_at(&s, 2 * value);
+            let sums = [first_sum(&s, value), whole.saturating_sub(1), whole, first_sum(&s, value + 1) - 1];
+            for sum in sums.map(|sum| sum.min(greatest)) {
                 let swell = |retained| [3, 0, 1, 3, sum, retained, 0, 0];
                 for (program, reason) in
                     [("second program", oracle::reason as Reasoner), ("proved library", host::reason)]

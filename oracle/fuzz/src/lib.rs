@@ -2,7 +2,7 @@
 //! sits in the second program, so the fuzzer looks for bytes that take a new way through the rules.
 use oracle::compare::{differs, explain, Case};
 use oracle::recording::MISSING;
-use oracle::score::{beside_the_steps, first_sum, retained};
+use oracle::score::{beside_the_steps, retained, sum_at};
 use oracle::{Event, Settings, Table, WORDS};
 
 /// The bytes, read from the front; past the end they are zeros.
@@ -66,7 +66,7 @@ fn case(bytes: &mut Bytes) -> Case {
 }
 
 /// Numbers that are an event or nearly one: each within its bounds or one beyond, the end beside a step of the curve or
-/// anywhere, the extreme beside a retained value's half or anywhere.
+/// anywhere, the extreme beside a whole thousandth or a half, or anywhere.
 fn near_event(bytes: &mut Bytes, s: &Settings) -> Event {
     let kind = [1, 1, 1, 1, 2, 3, 0, 4][bytes.byte() as usize % 8];
     let seen = [3, 3, 3, 3, 0, 1, 2, 4][bytes.byte() as usize % 8];
@@ -77,7 +77,7 @@ fn near_event(bytes: &mut Bytes, s: &Settings) -> Event {
     let extreme = match choice / 8 % 4 {
         0 => bytes.word() % (s.n * s.r * s.r),
         1 => bytes.word() % (most + 2),
-        beside => (first_sum(s, bytes.half_word() % (100_000_000 / s.r + 1)) + beside as u64).saturating_sub(3).min(most),
+        beside => (sum_at(s, bytes.word() % (200_000_000 / s.r + 1)) + beside as u64).saturating_sub(3).min(most),
     };
     let most = 3 * s.n * s.r * s.r * h + 2;
     let shortfall = if kind == 1 || choice == 255 { bytes.word() % most } else { 0 };

@@ -1,7 +1,7 @@
 //! Event words for the comparison: from real lists, changed by one, on every border, and anything at all.
 use super::recordings;
 use crate::random::Random;
-use crate::score::{first_sum, retained};
+use crate::score::{retained, sum_at};
 use crate::settings::{first_bad, reference};
 use crate::{plain, Event, Settings, WORDS};
 
@@ -81,7 +81,7 @@ fn duration(random: &mut Random, s: &Settings) -> u64 {
     }
 }
 
-/// A sum where a row begins, at a threshold, at a retained value's half, or anything allowed; the first beyond, too.
+/// A sum where a row begins, at a threshold, at a whole thousandth or a half, or anything allowed; the first beyond, too.
 fn extreme(random: &mut Random, s: &Settings) -> u64 {
     let most = s.n * 10_000_000_000;
     let at = |thousandths: u64| (thousandths * thousandths * s.n * s.r * s.r).div_ceil(1_000_000);
@@ -95,7 +95,7 @@ fn extreme(random: &mut Random, s: &Settings) -> u64 {
         4 => {
             // No allowed sum has more: a sample of 100,000 against R.
             let most = random.pick(&[10, 1_000, 100_000_000 / s.r]);
-            let sum = first_sum(s, random.between(0, most));
+            let sum = sum_at(s, random.between(0, 2 * most));
             beside(random, sum)
         }
         5 => random.below(at(10 * s.sag)),

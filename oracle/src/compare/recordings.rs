@@ -2,6 +2,7 @@
 //! gaps, samples out of range, and lengths that are turned away.
 use crate::random::Random;
 use crate::recording::MISSING;
+use crate::score::sum_at;
 use crate::settings::first_bad;
 use crate::Settings;
 use std::f64::consts::PI;
@@ -150,7 +151,7 @@ fn border(random: &mut Random, s: &Settings) -> u64 {
 /// sum is rounded up, so that with 0 it is the first at or above the level, and with -1 the last below. Where no four
 /// squares are found for the end of the block, it is near: its sum is a little less.
 fn block_of(s: &Settings, halves: u64, beside: i64) -> Recording {
-    let window = (halves * halves * s.n * s.r * s.r).div_ceil(4_000_000);
+    let window = sum_at(s, halves);
     // The two halves of an odd sum differ by one; both being the larger, a window is at most one unit above.
     let wanted = (window.div_ceil(2) as i64 + beside).max(0) as u64;
     let count = s.n / 2;
