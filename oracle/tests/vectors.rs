@@ -128,14 +128,15 @@ fn types_of_the_synthetic_sags() {
     }
 }
 
-/// Retained voltage and severity: the printed ones for types A and D, the lowest phasor's magnitude for type C.
+/// Retained voltage and severity: the printed ones for types A and D, the lowest phasor's magnitude for type C. The nearest
+/// thousandth is half of one off at most, and the severity twice that; samples are whole numbers, which adds a little.
 fn assert_sag_of(sag: Event, words: &[&str], program: &str) {
     let v = number(words[1]);
     let is_c = words[0].starts_with('C');
     let retained = if is_c { (0.25 + 0.75 * v * v).sqrt() } else { number(words[2]) };
     let severity = if is_c { 2.0 * (1.0 - retained) } else { number(words[3]) };
-    assert!((sag[5] as f64 / 1000.0 - retained).abs() < 0.0015, "{program}: retained {} of {words:?}", sag[5]);
+    assert!((sag[5] as f64 / 1000.0 - retained).abs() < 0.00051, "{program}: retained {} of {words:?}", sag[5]);
     for (scorer, score) in SCORERS {
-        assert_near(score(&SETTINGS, &sag), severity, 0.003, scorer, words);
+        assert_near(score(&SETTINGS, &sag), severity, 0.00102, scorer, words);
     }
 }

@@ -99,7 +99,8 @@ pub record IsDown (m S d : ℕ) : Type 0 where
   pub at-least : d * d * m ≤ 1000000 * S
   pub under : 1000000 * S < (d + 1) * (d + 1) * m
 
--- what 1,000,000 x S has over d x d x m, the rest, is at least what (d + 1/2)^2 x m has, the half
+-- what 1,000,000 x S has over d x d x m, the rest, is at least what (d + 1/2)^2 x m has, the half: (d + 1/4) x m. Four times both, in
+-- whole numbers
 abbrev pub halfOrMore : (m S d : ℕ) → Bool
 halfOrMore m S d = leb ((4 * d + 1) * m) (4 * (1000000 * S - d * d * m))
 
