@@ -353,7 +353,9 @@ impl Shared {
         let _ = fs::remove_dir_all(&path);
         fs::create_dir(&path).unwrap();
         fs::set_permissions(&path, Permissions::from_mode(0o777)).unwrap();
-        fs::copy(PROGRAM, path.join("burrcradle")).unwrap();
+        // By a process of its own: while this one writes a copy, another test may start a child, which then holds it open, and what
+        // is open for writing can't be run ("text file busy").
+        assert!(Command::new("cp").arg(PROGRAM).arg(path.join("burrcradle")).status().unwrap().success());
         fs::write(path.join("k.csv"), csv(&k2())).unwrap();
         let shared = Shared(path);
         assert_eq!(shared.run(0, &[&["new", "x.site"][..], &KNOWN].concat()).0, 0);
