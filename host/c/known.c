@@ -14,7 +14,7 @@ static const uint64_t settings[7] = {8, 1000, 50, 90, 10, 110, 2};
 static const uint64_t sixty[7] = {8, 1000, 60, 90, 10, 110, 2};
 
 #define SETTINGS(s) (s)[0], (s)[1], (s)[2], (s)[3], (s)[4], (s)[5], (s)[6]
-#define EVENT(e) (e)[0], (e)[1], (e)[2], (e)[3], (e)[4], (e)[5], (e)[6], (e)[7]
+#define EVENT(e) (e)[0], (e)[1], (e)[2], (e)[3], (e)[4], (e)[5], (e)[6], (e)[7], (e)[8], (e)[9], (e)[10]
 
 /* A block is four samples of each channel. */
 #define BLOCK 12
@@ -41,67 +41,104 @@ struct known {
     size_t events;
     struct answer answers[MOST_EVENTS];
     /* The site table after it: total, healthy, disturbed, unknown; the cell of its sag, 40 where none is placed; unplaced;
-       sags, interruptions, swells; shortfall. */
-    uint64_t half[4], cell, unplaced, count[3], shortfall;
+       sags, interruptions, swells; shortfall, and those of a, b and c. */
+    uint64_t half[4], cell, unplaced, count[3], shortfall[4];
 };
 
 #define SAME(...) {__VA_ARGS__}, {__VA_ARGS__}
 #define AROUND(v) 6, SAME(1000, 1000, v, v, 1000, 1000)
-#define NONE 40, 0, {0, 0, 0}, 0
+#define NONE 40, 0, {0, 0, 0}, {0, 0, 0, 0}
 #define UNSCORED(why) why, 40, -1, -1
 
 static const struct known known[] = {
     {"K1", AROUND(1000), -1, 0, {{{0}, UNSCORED(0)}}, {5, 5, 0, 0}, NONE},
-    {"K2", AROUND(500), -1, 1, {{{1, 1, 4, 3, 2000000, 500, 36000000, 0}, 0, 17, 1, 0.045}},
-     {5, 2, 3, 0}, 17, 0, {1, 0, 0}, 36000000},
+    {"K2", AROUND(500), -1, 1,
+     {{{1, 1, 4, 3, 2000000, 500, 36000000, 0, 12000000, 12000000, 12000000}, 0, 17, 1, 0.045}},
+     {5, 2, 3, 0}, 17, 0, {1, 0, 0}, {36000000, 12000000, 12000000, 12000000}},
     {"K3", 6, SAME(900, 900, 900, 900, 900, 900), -1, 0, {{{0}, UNSCORED(0)}}, {5, 5, 0, 0}, NONE},
-    {"K4", AROUND(899), -1, 1, {{{1, 2, 3, 3, 6465608, 899, 4603176, 0}, 0, 32, 0.101, 0.005}},
-     {5, 4, 1, 0}, 32, 0, {1, 0, 0}, 4603176},
+    {"K4", AROUND(899), -1, 1,
+     {{{1, 2, 3, 3, 6465608, 899, 4603176, 0, 1534392, 1534392, 1534392}, 0, 32, 0.101, 0.005}},
+     {5, 4, 1, 0}, 32, 0, {1, 0, 0}, {4603176, 1534392, 1534392, 1534392}},
     {"K5", 7, SAME(1000, 899, 899, 919, 919, 920, 920), -1, 1,
-     {{{1, 1, 5, 3, 6465608, 899, 4603176, 0}, 0, 33, 0.202, 0.005}},
-     {6, 2, 4, 0}, 33, 0, {1, 0, 0}, 4603176},
+     {{{1, 1, 5, 3, 6465608, 899, 4603176, 0, 1534392, 1534392, 1534392}, 0, 33, 0.202, 0.005}},
+     {6, 2, 4, 0}, 33, 0, {1, 0, 0}, {4603176, 1534392, 1534392, 1534392}},
     {"K6", AROUND(0), -1, 2,
-     {{{1, 1, 4, 3, 0, 0, 48000000, 0}, 0, 1, 2, 0.06}, {{2, 2, 3, 3, 0, 0, 0, 0}, UNSCORED(4)}},
-     {5, 2, 3, 0}, 1, 0, {1, 1, 0}, 48000000},
+     {{{1, 1, 4, 3, 0, 0, 48000000, 0, 16000000, 16000000, 16000000}, 0, 1, 2, 0.06},
+      {{2, 2, 3, 3, 0, 0, 0, 0, 0, 0, 0}, UNSCORED(4)}},
+     {5, 2, 3, 0}, 1, 0, {1, 1, 0}, {48000000, 16000000, 16000000, 16000000}},
     {"K7", 6, SAME(1000, 1000, 100, 101, 1000, 1000), -1, 1,
-     {{{1, 1, 4, 3, 80804, 101, 47515176, 0}, 0, 9, 1.798, 0.059}},
-     {5, 2, 3, 0}, 9, 0, {1, 0, 0}, 47515176},
-    {"K8", 4, SAME(500, 500, 1000, 1000), -1, 1, {{{1, 0, 2, 2, 2000000, 500, 27000000, 0}, UNSCORED(1)}},
-     {3, 1, 2, 0}, 40, 1, {1, 0, 0}, 27000000},
+     {{{1, 1, 4, 3, 80804, 101, 47515176, 0, 15838392, 15838392, 15838392}, 0, 9, 1.798, 0.059}},
+     {5, 2, 3, 0}, 9, 0, {1, 0, 0}, {47515176, 15838392, 15838392, 15838392}},
+    {"K8", 4, SAME(500, 500, 1000, 1000), -1, 1,
+     {{{1, 0, 2, 2, 2000000, 500, 27000000, 0, 9000000, 9000000, 9000000}, UNSCORED(1)}},
+     {3, 1, 2, 0}, 40, 1, {1, 0, 0}, {27000000, 9000000, 9000000, 9000000}},
     {"K9", 8, SAME(1000, 1000, 500, 500, 500, 500, 1000, 1000), 4 * BLOCK, 2,
-     {{{1, 1, 3, 1, 2000000, 500, 27000000, 0}, UNSCORED(2)}, {{1, 5, 6, 2, 5000000, 791, 9000000, 0}, UNSCORED(1)}},
-     {7, 2, 3, 2}, 40, 2, {2, 0, 0}, 36000000},
-    {"K10", AROUND(1200), -1, 1, {{{3, 1, 4, 3, 11520000, 1200, 0, 0}, UNSCORED(4)}},
-     {5, 2, 3, 0}, 40, 0, {0, 0, 1}, 0},
-    {"K11", 2, SAME(500, 500), -1, 1, {{{1, 0, 1, 0, 2000000, 500, 18000000, 0}, UNSCORED(3)}},
-     {1, 0, 1, 0}, 40, 1, {1, 0, 0}, 18000000},
+     {{{1, 1, 3, 1, 2000000, 500, 27000000, 0, 9000000, 9000000, 9000000}, UNSCORED(2)},
+      {{1, 5, 6, 2, 5000000, 791, 9000000, 0, 3000000, 3000000, 3000000}, UNSCORED(1)}},
+     {7, 2, 3, 2}, 40, 2, {2, 0, 0}, {36000000, 12000000, 12000000, 12000000}},
+    {"K10", AROUND(1200), -1, 1, {{{3, 1, 4, 3, 11520000, 1200, 0, 0, 0, 0, 0}, UNSCORED(4)}},
+     {5, 2, 3, 0}, 40, 0, {0, 0, 1}, {0, 0, 0, 0}},
+    {"K11", 2, SAME(500, 500), -1, 1,
+     {{{1, 0, 1, 0, 2000000, 500, 18000000, 0, 6000000, 6000000, 6000000}, UNSCORED(3)}},
+     {1, 0, 1, 0}, 40, 1, {1, 0, 0}, {18000000, 6000000, 6000000, 6000000}},
     {"K12", 6, {1000, 1000, 500, 500, 1000, 1000}, {1000, 1000, 1000, 1000, 1000, 1000}, -1, 1,
-     {{{1, 1, 4, 3, 2000000, 500, 12000000, 4}, 0, 17, 1, 0.015}},
-     {5, 2, 3, 0}, 17, 0, {1, 0, 0}, 12000000},
+     {{{1, 1, 4, 3, 2000000, 500, 12000000, 4, 12000000, 0, 0}, 0, 17, 1, 0.015}},
+     {5, 2, 3, 0}, 17, 0, {1, 0, 0}, {12000000, 12000000, 0, 0}},
+    {"a at 700, b and c at 500", 6, {1000, 1000, 700, 700, 1000, 1000}, {1000, 1000, 500, 500, 1000, 1000}, -1, 1,
+     {{{1, 1, 4, 3, 2000000, 500, 32160000, 4, 8160000, 12000000, 12000000}, 0, 17, 1, 0.04}},
+     {5, 2, 3, 0}, 17, 0, {1, 0, 0}, {32160000, 8160000, 12000000, 12000000}},
 };
 
 #define CASES (sizeof known / sizeof known[0])
 
-/* Sags by their words alone. At 899 on all channels, on both sides of the curve's last step: it stands at 800 while they last
-   at most 20 f half-cycles, and at 900 after that. Then on both sides of a retained value's half, and each with the value that
-   its extreme does not have. */
+/* Events by their words alone. Sags at 899 on all channels, on both sides of the curve's last step: it stands at 800 while
+   they last at most 20 f half-cycles, and at 900 after that. Then on both sides of a retained value's half, and each with
+   the value that its extreme does not have. Then events whose last three words add up to the shortfall or don't. */
 struct judged {
     const char *name;
     const uint64_t *settings;
     struct answer answer;
 };
 
+/* 2^63: modulo 2^64, twice that is nothing. */
+#define HALF 9223372036854775808u
+
 static const struct judged judged[] = {
-    {"50 Hz, 1000 half-cycles", settings, {{1, 7, 1007, 3, 6465608, 899, 4603176000, 0}, 0, 37, 0.505, 5.753}},
-    {"50 Hz, 1001 half-cycles", settings, {{1, 7, 1008, 3, 6465608, 899, 4607779176, 0}, 0, 37, 1.01, 5.759}},
-    {"60 Hz, 1200 half-cycles", sixty, {{1, 7, 1207, 3, 6465608, 899, 5523811200, 0}, 0, 37, 0.505, 5.753}},
-    {"60 Hz, 1201 half-cycles", sixty, {{1, 7, 1208, 3, 6465608, 899, 5528414376, 0}, 0, 37, 1.01, 5.758}},
-    {"exactly 100.5", settings, {{1, 1, 4, 3, 80802, 101, 47515188, 0}, 0, 9, 1.798, 0.059}},
-    {"exactly 100.5, downward", settings, {{1, 1, 4, 3, 80802, 100, 47515188, 0}, UNSCORED(5)}},
-    {"a unit of S below 100.5", settings, {{1, 1, 4, 3, 80801, 100, 47515194, 0}, 0, 9, 1.8, 0.059}},
-    {"a unit of S below 100.5, upward", settings, {{1, 1, 4, 3, 80801, 101, 47515194, 0}, UNSCORED(5)}},
-    {"a unit of S below the sag threshold", settings, {{1, 1, 4, 3, 6479999, 900, 4560003, 0}, 0, 33, 0.2, 0.005}},
-    {"a unit of S below the sag threshold, downward", settings, {{1, 1, 4, 3, 6479999, 899, 4560003, 0}, UNSCORED(5)}},
+    {"50 Hz, 1000 half-cycles", settings,
+     {{1, 7, 1007, 3, 6465608, 899, 4603176000, 0, 1534392000, 1534392000, 1534392000}, 0, 37, 0.505, 5.753}},
+    {"50 Hz, 1001 half-cycles", settings,
+     {{1, 7, 1008, 3, 6465608, 899, 4607779176, 0, 1535926392, 1535926392, 1535926392}, 0, 37, 1.01, 5.759}},
+    {"60 Hz, 1200 half-cycles", sixty,
+     {{1, 7, 1207, 3, 6465608, 899, 5523811200, 0, 1841270400, 1841270400, 1841270400}, 0, 37, 0.505, 5.753}},
+    {"60 Hz, 1201 half-cycles", sixty,
+     {{1, 7, 1208, 3, 6465608, 899, 5528414376, 0, 1842804792, 1842804792, 1842804792}, 0, 37, 1.01, 5.758}},
+    {"exactly 100.5", settings,
+     {{1, 1, 4, 3, 80802, 101, 47515188, 0, 15838396, 15838396, 15838396}, 0, 9, 1.798, 0.059}},
+    {"exactly 100.5, downward", settings,
+     {{1, 1, 4, 3, 80802, 100, 47515188, 0, 15838396, 15838396, 15838396}, UNSCORED(5)}},
+    {"a unit of S below 100.5", settings,
+     {{1, 1, 4, 3, 80801, 100, 47515194, 0, 15838398, 15838398, 15838398}, 0, 9, 1.8, 0.059}},
+    {"a unit of S below 100.5, upward", settings,
+     {{1, 1, 4, 3, 80801, 101, 47515194, 0, 15838398, 15838398, 15838398}, UNSCORED(5)}},
+    {"a unit of S below the sag threshold", settings,
+     {{1, 1, 4, 3, 6479999, 900, 4560003, 0, 1520001, 1520001, 1520001}, 0, 33, 0.2, 0.005}},
+    {"a unit of S below the sag threshold, downward", settings,
+     {{1, 1, 4, 3, 6479999, 899, 4560003, 0, 1520001, 1520001, 1520001}, UNSCORED(5)}},
+    {"all of K2's shortfall c's", settings,
+     {{1, 1, 4, 3, 2000000, 500, 36000000, 0, 0, 0, 36000000}, 0, 17, 1, 0.045}},
+    {"a sag's part a one too large", settings,
+     {{1, 1, 4, 3, 2000000, 500, 36000000, 0, 12000001, 12000000, 12000000}, UNSCORED(5)}},
+    {"a sag's part b one too small", settings,
+     {{1, 1, 4, 3, 2000000, 500, 36000000, 0, 12000000, 11999999, 12000000}, UNSCORED(5)}},
+    {"a sag's part c one too large", settings,
+     {{1, 1, 4, 3, 2000000, 500, 36000000, 0, 12000000, 12000000, 12000001}, UNSCORED(5)}},
+    {"an interruption with a part", settings, {{2, 2, 3, 3, 0, 0, 0, 0, 1, 0, 0}, UNSCORED(5)}},
+    {"a swell with a part", settings, {{3, 1, 4, 3, 11520000, 1200, 0, 0, 0, 0, 1}, UNSCORED(5)}},
+    {"a sag's parts that wrap round", settings,
+     {{1, 1, 4, 3, 2000000, 500, 36000000, 0, HALF, HALF, 36000000}, UNSCORED(5)}},
+    {"an interruption's parts that wrap round", settings, {{2, 2, 3, 3, 0, 0, 0, 0, HALF, HALF, 0}, UNSCORED(5)}},
+    {"a swell's parts that wrap round", settings,
+     {{3, 1, 4, 3, 11520000, 1200, 0, 0, UINT64_MAX, 0, 1}, UNSCORED(5)}},
 };
 
 #define JUDGED (sizeof judged / sizeof judged[0])
@@ -194,7 +231,7 @@ static void site(const struct known *k)
         want[11 + k->cell] = 1;
     want[51] = k->unplaced;
     memcpy(&want[52], k->count, sizeof k->count);
-    want[55] = k->shortfall;
+    memcpy(&want[55], k->shortfall, sizeof k->shortfall);
     check(memcmp(table, want, sizeof want) == 0, k->name, "table");
 }
 
@@ -229,12 +266,48 @@ static void turned_away(void)
     refused("seven samples a channel", samples, 21, ROOM, 3, 0);
     refused("nine samples a channel", samples, 27, ROOM, 4, 0);
     refused("100001 half-cycles", zeros, long_len, ROOM, 5, 0);
-    refused("room 7", samples, len, 7, 7, 1);
+    refused("room 10", samples, len, 10, 7, 1);
     samples[20] = 100001;
     refused("a sample 100001", samples, len, ROOM, 6, 20);
     samples[19] = INT32_MIN + 1;
     refused("a sample beside missing", samples, len, ROOM, 6, 19);
     free(zeros);
+}
+
+/* K2 in a room for one event exactly: all of it is written, and nothing beyond. */
+static void room_for_one(void)
+{
+    int32_t samples[MOST_BLOCKS * BLOCK];
+    size_t len = samples_of(&known[1], samples);
+    const struct answer *sag = &known[1].answers[0];
+    uint64_t events[ROOM], answer = 99;
+    fill(events, ROOM, 9);
+    check(burr_list(SETTINGS(settings), samples, len, events, 11, &answer) == 0 && answer == 1, "room 11", "answer");
+    check(memcmp(events, sag->words, sizeof sag->words) == 0, "room 11", "words");
+    check(all(&events[11], ROOM - 11, 9), "room 11", "beyond the room");
+}
+
+/* K12 on each channel in turn: it alone has a shortfall, and the type is Ca, Cb or Cc. */
+static void each_channel(void)
+{
+    static const uint64_t words[3][BURR_EVENT] = {
+        {1, 1, 4, 3, 2000000, 500, 12000000, 4, 12000000, 0, 0},
+        {1, 1, 4, 3, 2000000, 500, 12000000, 5, 0, 12000000, 0},
+        {1, 1, 4, 3, 2000000, 500, 12000000, 6, 0, 0, 12000000},
+    };
+    for (size_t channel = 0; channel < 3; channel++) {
+        int32_t samples[6 * BLOCK];
+        uint64_t events[ROOM], table[BURR_TABLE], answer = 99, place = 99;
+        for (size_t i = 0; i < 6 * BLOCK; i++)
+            samples[i] = i % 3 == channel && i / BLOCK / 2 == 1 ? 500 : 1000;
+        fill(events, ROOM, 9);
+        check(burr_list(SETTINGS(settings), samples, 6 * BLOCK, events, ROOM, &answer) == 0, "one channel", "refused");
+        check(answer == 1 && memcmp(events, words[channel], sizeof words[channel]) == 0, "one channel", "words");
+        burr_fresh(SETTINGS(settings), table, &place);
+        check(burr_add(table, samples, 6 * BLOCK, &place) == 0, "one channel", "add");
+        check(table[55] == 12000000, "one channel", "table's shortfall");
+        check(memcmp(&table[56], &words[channel][8], 3 * sizeof table[0]) == 0, "one channel", "table's parts");
+    }
 }
 
 /* Refusal 1 at each setting in turn, the others good. */
@@ -283,12 +356,53 @@ static void bad_tables(void)
     check(all(table, BURR_TABLE, UINT64_MAX), "largest table", "add wrote");
 }
 
+/* A table with a shortfall and those of a, b and c: sound, where it is refused for having no samples, or unsound. */
+static void short_table(const char *name, const uint64_t *s, uint64_t total, const uint64_t shortfall[4], uint64_t number)
+{
+    static const int32_t samples[1] = {0};
+    uint64_t table[BURR_TABLE], kept[BURR_TABLE], place = 99;
+    burr_fresh(SETTINGS(s), table, &place);
+    table[7] = table[9] = total;
+    memcpy(&table[55], shortfall, 4 * sizeof table[0]);
+    memcpy(kept, table, sizeof kept);
+    place = 99;
+    check(burr_add(table, samples, 0, &place) == number && place == 0, name, "answer");
+    check(memcmp(table, kept, sizeof kept) == 0, name, "add wrote");
+}
+
+/* Shortfalls of a, b and c that add up to the whole or don't. Under the largest settings a full table's may be 15.36 x 10^18.
+   Three that are each below 15 x 10^18 can be 2^64, which is 18446744073709551616, above it. */
+static void short_tables(void)
+{
+    static const uint64_t most[7] = {512, 50000, 50, 90, 10, 110, 2};
+    static const uint64_t split[4] = {120000000, 0, 0, 120000000};
+    static const uint64_t above[4] = {120000001, 120000001, 0, 0};
+    static const uint64_t a[4] = {36000000, 12000001, 12000000, 12000000};
+    static const uint64_t b[4] = {36000000, 12000000, 11999999, 12000000};
+    static const uint64_t c[4] = {36000000, 12000000, 12000000, 12000001};
+    static const uint64_t whole[4] = {35999999, 12000000, 12000000, 12000000};
+    static const uint64_t wraps[4] = {36000000, HALF, HALF, 36000000};
+    static const uint64_t large[4] = {15000000000000000000u, 5000000000000000000u, 5000000000000000000u,
+                                      5000000000000000000u};
+    static const uint64_t below[4] = {15000000000000000000u, 12000000000000000000u, 12000000000000000000u,
+                                      9446744073709551616u};
+    short_table("all of the most shortfall c's", settings, 5, split, 3);
+    short_table("one more than the most shortfall", settings, 5, above, 9);
+    short_table("a's shortfall one too large", settings, 5, a, 9);
+    short_table("b's shortfall one too small", settings, 5, b, 9);
+    short_table("c's shortfall one too large", settings, 5, c, 9);
+    short_table("the whole shortfall one too small", settings, 5, whole, 9);
+    short_table("shortfalls that wrap round", settings, 5, wraps, 9);
+    short_table("a large shortfall", most, 4000000, large, 3);
+    short_table("shortfalls below a large one that wrap round", most, 4000000, below, 9);
+}
+
 /* The largest numbers: reason 5 under good settings, 6 under settings that are the largest too. */
 static void largest(void)
 {
-    static const uint64_t most[8] = {UINT64_MAX, UINT64_MAX, UINT64_MAX, UINT64_MAX,
-                                     UINT64_MAX, UINT64_MAX, UINT64_MAX, UINT64_MAX};
+    uint64_t most[BURR_EVENT];
     double severity = -1, energy = -1;
+    fill(most, BURR_EVENT, UINT64_MAX);
     check(burr_reason(SETTINGS(settings), EVENT(most)) == 5, "largest event", "reason");
     check(burr_cell(SETTINGS(settings), EVENT(most)) == 40, "largest event", "cell");
     check(burr_score(SETTINGS(settings), EVENT(most), &severity, &energy) == 5, "largest event", "score's reason");
@@ -307,8 +421,11 @@ int main(void)
     for (size_t i = 0; i < JUDGED; i++)
         ask(judged[i].name, judged[i].settings, &judged[i].answer);
     turned_away();
+    room_for_one();
+    each_channel();
     bad_settings();
     bad_tables();
+    short_tables();
     largest();
     if (wrong > 0)
         fprintf(stderr, "%d not as known\n", wrong);

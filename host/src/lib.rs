@@ -13,15 +13,16 @@ pub struct Settings {
     pub hysteresis: u64,
 }
 
-/// How many numbers an event has: kind, start, end, seen, extreme, retained, shortfall, type.
-pub const WORDS: usize = 8;
+/// How many numbers an event has: kind, start, end, seen, extreme, retained, shortfall, type, and the shortfalls of channels a, b
+/// and c, which make up the shortfall.
+pub const WORDS: usize = 11;
 
 /// An event's numbers.
 pub type Event = [u64; WORDS];
 
 /// How many numbers a site table has: seven settings; total, healthy, disturbed, unknown; forty cells; unplaced; sags,
-/// interruptions, swells; shortfall.
-pub const TABLE: usize = 56;
+/// interruptions, swells; shortfall, and those of channels a, b and c.
+pub const TABLE: usize = 59;
 
 /// A site table.
 pub type Table = [u64; TABLE];
@@ -47,14 +48,17 @@ pub mod raw {
         pub fn burr_reason(
             n: u64, r: u64, f: u64, sag: u64, interruption: u64, swell: u64, hysteresis: u64,
             kind: u64, start: u64, end: u64, seen: u64, extreme: u64, retained: u64, shortfall: u64, class: u64,
+            short_a: u64, short_b: u64, short_c: u64,
         ) -> u64;
         pub fn burr_cell(
             n: u64, r: u64, f: u64, sag: u64, interruption: u64, swell: u64, hysteresis: u64,
             kind: u64, start: u64, end: u64, seen: u64, extreme: u64, retained: u64, shortfall: u64, class: u64,
+            short_a: u64, short_b: u64, short_c: u64,
         ) -> u64;
         pub fn burr_score(
             n: u64, r: u64, f: u64, sag: u64, interruption: u64, swell: u64, hysteresis: u64,
             kind: u64, start: u64, end: u64, seen: u64, extreme: u64, retained: u64, shortfall: u64, class: u64,
+            short_a: u64, short_b: u64, short_c: u64,
             severity: *mut f64, energy: *mut f64,
         ) -> u64;
         pub fn burr_list(
@@ -74,7 +78,10 @@ pub mod raw {
 pub fn reason(s: &Settings, e: &Event) -> u64 {
     // SAFETY: numbers only.
     unsafe {
-        raw::burr_reason(s.n, s.r, s.f, s.sag, s.interruption, s.swell, s.hysteresis, e[0], e[1], e[2], e[3], e[4], e[5], e[6], e[7])
+        raw::burr_reason(
+            s.n, s.r, s.f, s.sag, s.interruption, s.swell, s.hysteresis,
+            e[0], e[1], e[2], e[3], e[4], e[5], e[6], e[7], e[8], e[9], e[10],
+        )
     }
 }
 
@@ -83,7 +90,10 @@ pub fn reason(s: &Settings, e: &Event) -> u64 {
 pub fn cell(s: &Settings, e: &Event) -> u64 {
     // SAFETY: numbers only.
     unsafe {
-        raw::burr_cell(s.n, s.r, s.f, s.sag, s.interruption, s.swell, s.hysteresis, e[0], e[1], e[2], e[3], e[4], e[5], e[6], e[7])
+        raw::burr_cell(
+            s.n, s.r, s.f, s.sag, s.interruption, s.swell, s.hysteresis,
+            e[0], e[1], e[2], e[3], e[4], e[5], e[6], e[7], e[8], e[9], e[10],
+        )
     }
 }
 
@@ -94,14 +104,15 @@ pub fn score(s: &Settings, e: &Event) -> Result<Score, u64> {
     // SAFETY: both floats are this function's own.
     let why = unsafe {
         raw::burr_score(
-            s.n, s.r, s.f, s.sag, s.interruption, s.swell, s.hysteresis, e[0], e[1], e[2], e[3], e[4], e[5], e[6], e[7],
+            s.n, s.r, s.f, s.sag, s.interruption, s.swell, s.hysteresis,
+            e[0], e[1], e[2], e[3], e[4], e[5], e[6], e[7], e[8], e[9], e[10],
             &mut given.severity, &mut given.energy,
         )
     };
     if why == 0 { Ok(given) } else { Err(why) }
 }
 
-/// Lists the events of a recording into `events`, eight numbers each: how many there are, or the refusal.
+/// Lists the events of a recording into `events`, eleven numbers each: how many there are, or the refusal.
 #[rustfmt::skip]
 pub fn list(s: &Settings, samples: &[i32], events: &mut [u64]) -> Result<u64, Refused> {
     let mut answer = 0;
@@ -118,7 +129,7 @@ pub fn list(s: &Settings, samples: &[i32], events: &mut [u64]) -> Result<u64, Re
 /// A fresh table for the settings; where they are refused, the table is all zeros.
 pub fn fresh(s: &Settings) -> (Result<(), Refused>, Table) {
     let (mut table, mut place) = ([0; TABLE], 0);
-    // SAFETY: the table has the 56 numbers that the library writes.
+    // SAFETY: the table has the 59 numbers that the library writes.
     let number = unsafe {
         raw::burr_fresh(s.n, s.r, s.f, s.sag, s.interruption, s.swell, s.hysteresis, table.as_mut_ptr(), &mut place)
     };
@@ -128,7 +139,7 @@ pub fn fresh(s: &Settings) -> (Result<(), Refused>, Table) {
 /// Adds a recording to the table; a refusal leaves it as it was.
 pub fn add(table: &mut Table, samples: &[i32]) -> Result<(), Refused> {
     let mut place = 0;
-    // SAFETY: the table has 56 numbers, and the samples' pointer goes with their length.
+    // SAFETY: the table has 59 numbers, and the samples' pointer goes with their length.
     let number = unsafe { raw::burr_add(table.as_mut_ptr(), samples.as_ptr(), samples.len(), &mut place) };
     accepted(number, place)
 }

@@ -1,8 +1,8 @@
-//! The known answers K1 to K12, through every function of the proved library, and the scores on both sides of the curve's last
-//! step and of a retained value's half. The numbers are those of the rules.
+//! The known answers K1 to K12, through every function of the proved library, the scores on both sides of the curve's last step
+//! and of a retained value's half, and what each channel lacks by itself. The numbers are those of the rules.
 mod common;
-use common::{blocks, blocks_of, dip, BLOCK, MISSING, SETTINGS};
-use host::{add, cell, fresh, list, reason, score, Event, Score, Settings, TABLE};
+use common::{blocks, dip, dip_of, BLOCK, MISSING, SETTINGS};
+use host::{add, cell, fresh, list, reason, score, Event, Score, Settings, TABLE, WORDS};
 
 /// What is known of one event: its numbers, its reason, its cell, and severity and energy where it has a score.
 struct Answer {
@@ -33,6 +33,8 @@ struct Site {
     interruptions: u64,
     swells: u64,
     shortfall: u64,
+    /// The shortfalls of a, b and c.
+    parts: [u64; 3],
 }
 
 /// No placed sag among so many half-cycles.
@@ -41,11 +43,11 @@ fn site(total: u64, healthy: u64, disturbed: u64) -> Site {
 }
 
 fn known(samples: &[i32], answers: &[Answer], site: Site) {
-    let mut events = [9; 17];
+    let mut events = [9; 23];
     assert_eq!(list(&SETTINGS, samples, &mut events), Ok(answers.len() as u64));
-    let mut want = [9; 17];
-    for (i, answer) in answers.iter().enumerate() {
-        want[8 * i..8 * i + 8].copy_from_slice(&answer.words);
+    let mut want = [9; 23];
+    for (place, answer) in want.chunks_exact_mut(WORDS).zip(answers) {
+        place.copy_from_slice(&answer.words);
     }
     assert_eq!(events, want);
     for answer in answers {
@@ -71,7 +73,8 @@ fn tabled(samples: &[i32], site: Site) {
     if site.cell < 40 {
         want[11 + site.cell] = 1;
     }
-    want[51..].copy_from_slice(&[site.unplaced, site.sags, site.interruptions, site.swells, site.shortfall]);
+    want[51..56].copy_from_slice(&[site.unplaced, site.sags, site.interruptions, site.swells, site.shortfall]);
+    want[56..].copy_from_slice(&site.parts);
     assert_eq!(table, want);
 }
 
@@ -82,8 +85,9 @@ fn k1() {
 
 #[test]
 fn k2() {
-    let sag = scored([1, 1, 4, 3, 2000000, 500, 36000000, 0], 17, 1.0, 0.045);
-    known(&dip(500), &[sag], Site { cell: 17, sags: 1, shortfall: 36000000, ..site(5, 2, 3) });
+    let sag = scored([1, 1, 4, 3, 2000000, 500, 36000000, 0, 12000000, 12000000, 12000000], 17, 1.0, 0.045);
+    let after = Site { cell: 17, sags: 1, shortfall: 36000000, parts: [12000000; 3], ..site(5, 2, 3) };
+    known(&dip(500), &[sag], after);
 }
 
 #[test]
@@ -93,67 +97,101 @@ fn k3() {
 
 #[test]
 fn k4() {
-    let sag = scored([1, 2, 3, 3, 6465608, 899, 4603176, 0], 32, 0.101, 0.005);
-    known(&dip(899), &[sag], Site { cell: 32, sags: 1, shortfall: 4603176, ..site(5, 4, 1) });
+    let sag = scored([1, 2, 3, 3, 6465608, 899, 4603176, 0, 1534392, 1534392, 1534392], 32, 0.101, 0.005);
+    let after = Site { cell: 32, sags: 1, shortfall: 4603176, parts: [1534392; 3], ..site(5, 4, 1) };
+    known(&dip(899), &[sag], after);
 }
 
 #[test]
 fn k5() {
-    let sag = scored([1, 1, 5, 3, 6465608, 899, 4603176, 0], 33, 0.202, 0.005);
+    let sag = scored([1, 1, 5, 3, 6465608, 899, 4603176, 0, 1534392, 1534392, 1534392], 33, 0.202, 0.005);
     let samples = blocks(&[1000, 899, 899, 919, 919, 920, 920]);
-    known(&samples, &[sag], Site { cell: 33, sags: 1, shortfall: 4603176, ..site(6, 2, 4) });
+    let after = Site { cell: 33, sags: 1, shortfall: 4603176, parts: [1534392; 3], ..site(6, 2, 4) };
+    known(&samples, &[sag], after);
 }
 
 #[test]
 fn k6() {
-    let sag = scored([1, 1, 4, 3, 0, 0, 48000000, 0], 1, 2.0, 0.06);
-    let interruption = unscored([2, 2, 3, 3, 0, 0, 0, 0], 4);
-    let after = Site { cell: 1, sags: 1, interruptions: 1, shortfall: 48000000, ..site(5, 2, 3) };
+    let sag = scored([1, 1, 4, 3, 0, 0, 48000000, 0, 16000000, 16000000, 16000000], 1, 2.0, 0.06);
+    let interruption = unscored([2, 2, 3, 3, 0, 0, 0, 0, 0, 0, 0], 4);
+    let after = Site { cell: 1, sags: 1, interruptions: 1, shortfall: 48000000, parts: [16000000; 3], ..site(5, 2, 3) };
     known(&dip(0), &[sag, interruption], after);
 }
 
 #[test]
 fn k7() {
-    let sag = scored([1, 1, 4, 3, 80804, 101, 47515176, 0], 9, 1.798, 0.059);
+    let sag = scored([1, 1, 4, 3, 80804, 101, 47515176, 0, 15838392, 15838392, 15838392], 9, 1.798, 0.059);
     let samples = blocks(&[1000, 1000, 100, 101, 1000, 1000]);
-    known(&samples, &[sag], Site { cell: 9, sags: 1, shortfall: 47515176, ..site(5, 2, 3) });
+    let after = Site { cell: 9, sags: 1, shortfall: 47515176, parts: [15838392; 3], ..site(5, 2, 3) };
+    known(&samples, &[sag], after);
 }
 
 #[test]
 fn k8() {
-    let sag = unscored([1, 0, 2, 2, 2000000, 500, 27000000, 0], 1);
+    let sag = unscored([1, 0, 2, 2, 2000000, 500, 27000000, 0, 9000000, 9000000, 9000000], 1);
     let samples = blocks(&[500, 500, 1000, 1000]);
-    known(&samples, &[sag], Site { unplaced: 1, sags: 1, shortfall: 27000000, ..site(3, 1, 2) });
+    let after = Site { unplaced: 1, sags: 1, shortfall: 27000000, parts: [9000000; 3], ..site(3, 1, 2) };
+    known(&samples, &[sag], after);
 }
 
 #[test]
 fn k9() {
-    let first = unscored([1, 1, 3, 1, 2000000, 500, 27000000, 0], 2);
-    let second = unscored([1, 5, 6, 2, 5000000, 791, 9000000, 0], 1);
+    let first = unscored([1, 1, 3, 1, 2000000, 500, 27000000, 0, 9000000, 9000000, 9000000], 2);
+    let second = unscored([1, 5, 6, 2, 5000000, 791, 9000000, 0, 3000000, 3000000, 3000000], 1);
     let mut samples = blocks(&[1000, 1000, 500, 500, 500, 500, 1000, 1000]);
     samples[4 * BLOCK] = MISSING;
-    let after = Site { unknown: 2, unplaced: 2, sags: 2, shortfall: 36000000, ..site(7, 2, 3) };
+    let after = Site { unknown: 2, unplaced: 2, sags: 2, shortfall: 36000000, parts: [12000000; 3], ..site(7, 2, 3) };
     known(&samples, &[first, second], after);
 }
 
 #[test]
 fn k10() {
-    let swell = unscored([3, 1, 4, 3, 11520000, 1200, 0, 0], 4);
+    let swell = unscored([3, 1, 4, 3, 11520000, 1200, 0, 0, 0, 0, 0], 4);
     known(&dip(1200), &[swell], Site { swells: 1, ..site(5, 2, 3) });
 }
 
 #[test]
 fn k11() {
-    let sag = unscored([1, 0, 1, 0, 2000000, 500, 18000000, 0], 3);
-    known(&blocks(&[500, 500]), &[sag], Site { unplaced: 1, sags: 1, shortfall: 18000000, ..site(1, 0, 1) });
+    let sag = unscored([1, 0, 1, 0, 2000000, 500, 18000000, 0, 6000000, 6000000, 6000000], 3);
+    let after = Site { unplaced: 1, sags: 1, shortfall: 18000000, parts: [6000000; 3], ..site(1, 0, 1) };
+    known(&blocks(&[500, 500]), &[sag], after);
 }
 
 #[test]
 fn k12() {
-    let sag = scored([1, 1, 4, 3, 2000000, 500, 12000000, 4], 17, 1.0, 0.015);
-    let healthy = (1000, 1000);
-    let samples = blocks_of(&[healthy, healthy, (500, 1000), (500, 1000), healthy, healthy]);
-    known(&samples, &[sag], Site { cell: 17, sags: 1, shortfall: 12000000, ..site(5, 2, 3) });
+    let sag = scored([1, 1, 4, 3, 2000000, 500, 12000000, 4, 12000000, 0, 0], 17, 1.0, 0.015);
+    let after = Site { cell: 17, sags: 1, shortfall: 12000000, parts: [12000000, 0, 0], ..site(5, 2, 3) };
+    known(&dip_of([500, 1000, 1000]), &[sag], after);
+}
+
+/// K12 on b and on c: the one channel that is low has all of the shortfall.
+#[test]
+fn k12_on_the_other_channels() {
+    let sag = scored([1, 1, 4, 3, 2000000, 500, 12000000, 5, 0, 12000000, 0], 17, 1.0, 0.015);
+    let after = Site { cell: 17, sags: 1, shortfall: 12000000, parts: [0, 12000000, 0], ..site(5, 2, 3) };
+    known(&dip_of([1000, 500, 1000]), &[sag], after);
+    let sag = scored([1, 1, 4, 3, 2000000, 500, 12000000, 6, 0, 0, 12000000], 17, 1.0, 0.015);
+    let after = Site { cell: 17, sags: 1, shortfall: 12000000, parts: [0, 0, 12000000], ..site(5, 2, 3) };
+    known(&dip_of([1000, 1000, 500]), &[sag], after);
+}
+
+/// Over the three half-cycles, a channel at 500 lacks 3, 6 and 3 million, one at 600 lacks 2.56, 5.12 and 2.56, and one at 700
+/// lacks 2.04, 4.08 and 2.04.
+#[test]
+fn each_channel_has_its_own_shortfall() {
+    let sag = scored([1, 1, 4, 3, 2000000, 500, 30400000, 2, 12000000, 10240000, 8160000], 17, 1.0, 0.038);
+    let parts = [12000000, 10240000, 8160000];
+    let after = Site { cell: 17, sags: 1, shortfall: 30400000, parts, ..site(5, 2, 3) };
+    known(&dip_of([500, 600, 700]), &[sag], after);
+}
+
+/// A channel in a swell or in the hysteresis band has no shortfall, and takes none away from the others. The swell has none.
+#[test]
+fn a_surplus_is_no_shortfall() {
+    let sag = scored([1, 1, 4, 3, 2000000, 500, 12000000, 2, 12000000, 0, 0], 17, 1.0, 0.015);
+    let swell = unscored([3, 1, 4, 3, 13520000, 1300, 0, 0, 0, 0, 0], 4);
+    let after = Site { cell: 17, sags: 1, swells: 1, shortfall: 12000000, parts: [12000000, 0, 0], ..site(5, 2, 3) };
+    known(&dip_of([500, 910, 1300]), &[sag, swell], after);
 }
 
 /// A sag of so many half-cycles at 600 on all channels; of the first and the last of them, half is at 1000.
@@ -169,11 +207,12 @@ fn lasting(half_cycles: u64) -> Vec<i32> {
 #[test]
 fn the_last_step_of_the_curve() {
     for (h, shortfall, severity, energy) in [(1000, 15344640000, 2.0, 19.18), (1001, 15360000000, 4.0, 19.2)] {
-        let sag = scored([1, 1, 1 + h, 3, 2880000, 600, shortfall, 0], 21, severity, energy);
-        known(&lasting(h), &[sag], Site { cell: 21, sags: 1, shortfall, ..site(h + 2, 2, h) });
+        let part = shortfall / 3;
+        let sag = scored([1, 1, 1 + h, 3, 2880000, 600, shortfall, 0, part, part, part], 21, severity, energy);
+        known(&lasting(h), &[sag], Site { cell: 21, sags: 1, shortfall, parts: [part; 3], ..site(h + 2, 2, h) });
     }
     let sixty = Settings { f: 60, ..SETTINGS };
-    let at_899 = |h: u64| [1, 7, 7 + h, 3, 6465608, 899, 4603176 * h, 0];
+    let at_899 = |h: u64| [1, 7, 7 + h, 3, 6465608, 899, 4603176 * h, 0, 1534392 * h, 1534392 * h, 1534392 * h];
     asked(&SETTINGS, &scored(at_899(1000), 37, 0.505, 5.753));
     asked(&SETTINGS, &scored(at_899(1001), 37, 1.01, 5.759));
     asked(&sixty, &scored(at_899(1200), 37, 0.505, 5.753));
@@ -190,19 +229,20 @@ fn block(four: [i32; 4]) -> Vec<i32> {
 fn a_retained_half_goes_upward() {
     let on_it = block([201, 0, 0, 0]);
     let below = block([200, 20, 0, 0]);
-    for (second, extreme, retained, shortfall, severity) in
-        [(&on_it, 80802, 101, 47515188, 1.798), (&below, 80801, 100, 47515194, 1.8)]
+    for (second, extreme, retained, part, severity) in
+        [(&on_it, 80802, 101, 15838396, 1.798), (&below, 80801, 100, 15838398, 1.8)]
     {
+        let shortfall = 3 * part;
         let samples = [&blocks(&[1000, 1000]), &on_it, second, &blocks(&[1000, 1000])].map(|part| &part[..]).concat();
-        let sag = scored([1, 1, 4, 3, extreme, retained, shortfall, 0], 9, severity, 0.059);
-        known(&samples, &[sag], Site { cell: 9, sags: 1, shortfall, ..site(5, 2, 3) });
+        let sag = scored([1, 1, 4, 3, extreme, retained, shortfall, 0, part, part, part], 9, severity, 0.059);
+        known(&samples, &[sag], Site { cell: 9, sags: 1, shortfall, parts: [part; 3], ..site(5, 2, 3) });
     }
 }
 
 /// Words whose retained value is not the nearest are not an event; one unit of S below the threshold is a sag all the same.
 #[test]
 fn another_retained_value_is_not_an_event() {
-    let sag = |extreme: u64, retained: u64| [1, 1, 4, 3, extreme, retained, 4560003, 0];
+    let sag = |extreme: u64, retained: u64| [1, 1, 4, 3, extreme, retained, 4560003, 0, 1520001, 1520001, 1520001];
     for (extreme, retained) in [(80802, 100), (80802, 102), (80801, 101), (80804, 100), (6479999, 899)] {
         asked(&SETTINGS, &unscored(sag(extreme, retained), 5));
     }
@@ -210,11 +250,13 @@ fn another_retained_value_is_not_an_event() {
 }
 
 #[test]
-fn two_recordings_add_up() {
+fn recordings_add_up() {
     let (_, mut table) = fresh(&SETTINGS);
     assert_eq!(add(&mut table, &dip(500)), Ok(()));
     assert_eq!(add(&mut table, &dip(0)), Ok(()));
     assert_eq!(table[7..11], [10, 4, 6, 0]);
     assert_eq!((table[11 + 17], table[11 + 1]), (1, 1));
-    assert_eq!(table[51..], [0, 2, 1, 0, 84000000]);
+    assert_eq!(table[51..], [0, 2, 1, 0, 84000000, 28000000, 28000000, 28000000]);
+    assert_eq!(add(&mut table, &dip_of([1000, 500, 700])), Ok(()));
+    assert_eq!(table[51..], [0, 3, 1, 0, 104160000, 28000000, 40000000, 36160000]);
 }

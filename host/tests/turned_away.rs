@@ -1,7 +1,7 @@
 //! What is turned away: its number, its place, and all lent memory as it was.
 mod common;
 use common::{blocks, dip, MISSING, SETTINGS};
-use host::{add, cell, fresh, list, raw, reason, score, Refused, Settings, Table, TABLE};
+use host::{add, cell, fresh, list, raw, reason, score, Event, Refused, Settings, Table, TABLE, WORDS};
 
 /// Settings of which one is outside its range, and its number.
 const BAD: [(u64, Settings); 13] = [
@@ -30,8 +30,13 @@ const MOST: Settings = Settings {
     hysteresis: u64::MAX,
 };
 
-/// K2's sag.
-const SAG: [u64; 8] = [1, 1, 4, 3, 2000000, 500, 36000000, 0];
+/// K2's sag, K6's interruption, K10's swell.
+const SAG: Event = [1, 1, 4, 3, 2000000, 500, 36000000, 0, 12000000, 12000000, 12000000];
+const INTERRUPTION: Event = [2, 2, 3, 3, 0, 0, 0, 0, 0, 0, 0];
+const SWELL: Event = [3, 1, 4, 3, 11520000, 1200, 0, 0, 0, 0, 0];
+
+/// Modulo 2^64, twice this is nothing.
+const HALF: u64 = 1 << 63;
 
 fn refused(number: u64, place: u64) -> Refused {
     Refused { number, place }
@@ -53,14 +58,14 @@ fn add_refused(table: &Table, samples: &[i32], number: u64, place: u64) {
 
 /// Both calls that take samples refuse them alike.
 fn both_refused(samples: &[i32], number: u64, place: u64) {
-    list_refused(&SETTINGS, samples, 17, number, place);
+    list_refused(&SETTINGS, samples, 23, number, place);
     add_refused(&fresh(&SETTINGS).1, samples, number, place);
 }
 
 #[test]
 fn first_bad_setting() {
     for (place, s) in &BAD {
-        list_refused(s, &dip(500), 17, 1, *place);
+        list_refused(s, &dip(500), 23, 1, *place);
         assert_eq!(fresh(s), (Err(refused(1, *place)), [0; TABLE]));
         assert_eq!(reason(s, &SAG), 6);
         assert_eq!(cell(s, &SAG), 40);
@@ -111,15 +116,17 @@ fn sample_out_of_range() {
 fn widest_samples_are_taken() {
     let mut samples = dip(500);
     (samples[0], samples[1], samples[2]) = (100_000, -100_000, MISSING);
-    assert_eq!(list(&SETTINGS, &samples, &mut [0; 16]), Ok(1));
+    assert_eq!(list(&SETTINGS, &samples, &mut [0; 11]), Ok(1));
 }
 
 #[test]
 fn room_below_the_events() {
-    list_refused(&SETTINGS, &dip(500), 7, 7, 1);
+    list_refused(&SETTINGS, &dip(500), 10, 7, 1);
     list_refused(&SETTINGS, &dip(500), 0, 7, 1);
-    list_refused(&SETTINGS, &dip(0), 15, 7, 2);
-    assert_eq!(list(&SETTINGS, &dip(0), &mut [0; 16]), Ok(2));
+    list_refused(&SETTINGS, &dip(0), 21, 7, 2);
+    let mut exactly_one = [9; 11];
+    assert_eq!((list(&SETTINGS, &dip(500), &mut exactly_one), exactly_one), (Ok(1), SAG));
+    assert_eq!(list(&SETTINGS, &dip(0), &mut [0; 22]), Ok(2));
     assert_eq!(list(&SETTINGS, &blocks(&[1000; 6]), &mut []), Ok(0));
 }
 
@@ -140,60 +147,157 @@ fn unsound_table() {
     add_refused(&[u64::MAX; TABLE], &dip(500), 9, 0);
     let mut sound = fresh(&SETTINGS).1;
     assert_eq!(add(&mut sound, &dip(0)), Ok(()));
-    // Settings; total; each class; a cell; unplaced; each kind.
-    for (at, by) in [(0, 1), (7, 1), (8, 1), (9, 1), (10, 1), (30, 1), (51, 1), (52, 5), (53, 5), (54, 6)] {
+    // Settings; total; each class; a cell; unplaced; each kind; shortfall, and that of each channel.
+    let counts = [(0, 1), (7, 1), (8, 1), (9, 1), (10, 1), (30, 1), (51, 1), (52, 5), (53, 5), (54, 6)];
+    for (at, by) in counts.into_iter().chain([(55, 1), (56, 1), (57, 1), (58, 1)]) {
         let mut table = sound;
         table[at] += by;
         add_refused(&table, &dip(500), 9, 0);
     }
-    let mut table = sound;
-    table[55] = 3 * 8 * 1000 * 1000 * 5 + 1;
-    add_refused(&table, &[], 9, 0);
-    table[55] -= 1;
-    assert_eq!(add(&mut table, &dip(500)), Ok(()));
+}
+
+/// A table of so many half-cycles, all disturbed, with a shortfall and those of a, b and c.
+fn short(s: &Settings, total: u64, whole: u64, parts: [u64; 3]) -> Table {
+    let mut table = fresh(s).1;
+    (table[7], table[9], table[55]) = (total, total, whole);
+    table[56..].copy_from_slice(&parts);
+    table
+}
+
+/// Not more than 3 x N x R x R x total, and no bound for a single channel.
+#[test]
+fn shortfall_of_a_table() {
+    let most = 3 * 8 * 1000 * 1000 * 5;
+    for parts in [[most, 0, 0], [0, most, 0], [0, 0, most], [most / 3; 3], [1, most - 3, 2]] {
+        assert_eq!(add(&mut short(&SETTINGS, 5, most, parts), &dip(500)), Ok(()), "{parts:?}");
+    }
+    for parts in [[most + 1, 0, 0], [most / 3, most / 3 + 1, most / 3]] {
+        add_refused(&short(&SETTINGS, 5, most + 1, parts), &[], 9, 0);
+    }
+}
+
+#[test]
+fn shortfalls_of_a_table_that_do_not_add_up() {
+    let good = [12_000_000; 3];
+    for channel in 0..3 {
+        for part in [11_999_999, 12_000_001, 0, u64::MAX] {
+            let mut parts = good;
+            parts[channel] = part;
+            add_refused(&short(&SETTINGS, 5, 36_000_000, parts), &dip(500), 9, 0);
+        }
+    }
+    for whole in [35_999_999, 36_000_001] {
+        add_refused(&short(&SETTINGS, 5, whole, good), &dip(500), 9, 0);
+    }
+    for parts in [[HALF, HALF, 36_000_000], [u64::MAX, 0, 36_000_001], [u64::MAX, u64::MAX, 36_000_002]] {
+        add_refused(&short(&SETTINGS, 5, 36_000_000, parts), &dip(500), 9, 0);
+    }
+}
+
+/// Under the largest settings a full table may have a shortfall of 15.36 x 10^18. Three that are each below 15 x 10^18 can be 2^64
+/// above it. Without samples a sound table is refusal 3.
+#[test]
+fn large_shortfalls_of_a_table_that_wrap_round() {
+    let largest = Settings { n: 512, r: 50_000, ..SETTINGS };
+    let whole = 15_000_000_000_000_000_000;
+    let parts = [12_000_000_000_000_000_000, 12_000_000_000_000_000_000, 9_446_744_073_709_551_616];
+    add_refused(&short(&largest, 4_000_000, whole, [whole / 3; 3]), &[], 3, 0);
+    add_refused(&short(&largest, 4_000_000, whole, parts), &[], 9, 0);
+    let [a, b, c] = parts;
+    add_refused(&short(&largest, 4_000_000, whole, [c, a, b]), &[], 9, 0);
+    add_refused(&short(&largest, 4_000_000, whole, [b, c, a]), &[], 9, 0);
 }
 
 #[test]
 fn not_an_event() {
     assert_eq!(reason(&SETTINGS, &SAG), 0);
-    // Kind, start, end, seen, extreme, retained, shortfall, type.
-    for (at, word) in [(0, 0), (0, 4), (1, 4), (2, 100_001), (3, 4), (4, 6_480_000), (5, 501), (6, 72_000_001), (7, 7)]
-    {
+    // Kind, start, end, seen, extreme, retained, type.
+    for (at, word) in [(0, 0), (0, 4), (1, 4), (2, 100_001), (3, 4), (4, 6_480_000), (5, 501), (7, 7)] {
         let mut event = SAG;
         event[at] = word;
-        assert_eq!(reason(&SETTINGS, &event), 5, "number {at}");
-        assert_eq!(cell(&SETTINGS, &event), 40);
-        assert_eq!(score(&SETTINGS, &event), Err(5));
+        assert_not_an_event(&event);
     }
-    assert_eq!(reason(&SETTINGS, &[2, 2, 3, 3, 0, 0, 1, 0]), 5);
-    assert_eq!(reason(&SETTINGS, &[3, 1, 4, 3, 11520000, 1200, 0, 1]), 5);
+    assert_not_an_event(&with_type_1(INTERRUPTION));
+    assert_not_an_event(&with_type_1(SWELL));
+}
+
+fn assert_not_an_event(event: &Event) {
+    assert_eq!(reason(&SETTINGS, event), 5, "{event:?}");
+    assert_eq!(cell(&SETTINGS, event), 40, "{event:?}");
+    assert_eq!(score(&SETTINGS, event), Err(5), "{event:?}");
+}
+
+fn with_type_1(mut event: Event) -> Event {
+    event[7] = 1;
+    event
+}
+
+fn with_parts(mut event: Event, whole: u64, parts: [u64; 3]) -> Event {
+    event[6] = whole;
+    event[8..].copy_from_slice(&parts);
+    event
+}
+
+/// A sag's is not more than 3 x N x R x R x h, and a single channel's has no bound. The other kinds have none.
+#[test]
+fn shortfall_of_an_event() {
+    let most = 72_000_000;
+    for parts in [[most, 0, 0], [0, most, 0], [0, 0, most], [most / 3; 3], [1, most - 3, 2]] {
+        assert_eq!(reason(&SETTINGS, &with_parts(SAG, most, parts)), 0, "{parts:?}");
+    }
+    assert_not_an_event(&with_parts(SAG, most + 1, [most + 1, 0, 0]));
+    assert_not_an_event(&with_parts(SAG, most + 1, [24_000_000, 24_000_000, 24_000_001]));
+    for event in [INTERRUPTION, SWELL] {
+        assert_eq!(reason(&SETTINGS, &event), 4);
+        assert_not_an_event(&with_parts(event, 1, [0, 1, 0]));
+    }
+}
+
+/// By one on each channel, for each kind; and where the sum is right modulo 2^64 only.
+#[test]
+fn shortfalls_of_an_event_that_do_not_add_up() {
+    for event in [SAG, INTERRUPTION, SWELL] {
+        for at in 8..WORDS {
+            for by in [1, u64::MAX] {
+                let mut event = event;
+                event[at] = event[at].wrapping_add(by);
+                assert_not_an_event(&event);
+            }
+        }
+        let whole = event[6];
+        for parts in [[HALF, HALF, whole], [whole + 1, u64::MAX, 0], [u64::MAX, whole + 2, u64::MAX]] {
+            assert_not_an_event(&with_parts(event, whole, parts));
+        }
+    }
+    assert_not_an_event(&with_parts(SAG, 35_999_999, [12_000_000; 3]));
+    assert_not_an_event(&with_parts(SAG, 36_000_001, [12_000_000; 3]));
 }
 
 #[test]
 fn largest_numbers() {
-    assert_eq!(reason(&SETTINGS, &[u64::MAX; 8]), 5);
-    assert_eq!(cell(&SETTINGS, &[u64::MAX; 8]), 40);
-    assert_eq!(score(&SETTINGS, &[u64::MAX; 8]), Err(5));
-    assert_eq!(reason(&MOST, &[u64::MAX; 8]), 6);
-    assert_eq!(cell(&MOST, &[u64::MAX; 8]), 40);
-    assert_eq!(score(&MOST, &[u64::MAX; 8]), Err(6));
-    list_refused(&MOST, &[i32::MAX; 30], 17, 1, 1);
+    assert_eq!(reason(&SETTINGS, &[u64::MAX; WORDS]), 5);
+    assert_eq!(cell(&SETTINGS, &[u64::MAX; WORDS]), 40);
+    assert_eq!(score(&SETTINGS, &[u64::MAX; WORDS]), Err(5));
+    assert_eq!(reason(&MOST, &[u64::MAX; WORDS]), 6);
+    assert_eq!(cell(&MOST, &[u64::MAX; WORDS]), 40);
+    assert_eq!(score(&MOST, &[u64::MAX; WORDS]), Err(6));
+    list_refused(&MOST, &[i32::MAX; 30], 23, 1, 1);
     assert_eq!(fresh(&MOST), (Err(refused(1, 1)), [0; TABLE]));
 }
 
 #[test]
 fn floats_stay_where_there_is_no_score() {
-    for (event, why) in
-        [([2, 2, 3, 3, 0, 0, 0, 0], 4), ([u64::MAX; 8], 5), ([1, 0, 2, 2, 2000000, 500, 27000000, 0], 1)]
-    {
-        let [kind, start, end, seen, extreme, retained, shortfall, class] = event;
+    let unseen = [1, 0, 2, 2, 2000000, 500, 27000000, 0, 9000000, 9000000, 9000000];
+    let not_added_up = with_parts(SAG, 36000000, [12000001, 12000000, 12000000]);
+    for (event, why) in [(INTERRUPTION, 4), ([u64::MAX; WORDS], 5), (not_added_up, 5), (unseen, 1)] {
+        let [kind, start, end, seen, extreme, retained, shortfall, class, short_a, short_b, short_c] = event;
         let (mut severity, mut energy) = (0.25, 0.75);
         // SAFETY: both floats are this test's own.
         let given = unsafe {
             #[rustfmt::skip]
             let given = raw::burr_score(
                 8, 1000, 50, 90, 10, 110, 2, kind, start, end, seen, extreme, retained, shortfall, class,
-                &mut severity, &mut energy,
+                short_a, short_b, short_c, &mut severity, &mut energy,
             );
             given
         };

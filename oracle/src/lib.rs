@@ -14,12 +14,14 @@ pub mod recording;
 pub mod score;
 pub mod settings;
 pub mod site;
+pub mod straight;
 pub mod swift;
 
 pub use host::{Event, Refused, Score, Settings, Table, TABLE, WORDS};
 pub use list::list;
 pub use score::{cell, reason, score};
 pub use site::fresh;
+pub use straight::straight;
 pub use tally::add;
 
 mod tally;

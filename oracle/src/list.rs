@@ -4,7 +4,7 @@ use crate::recording::{self, Half};
 use crate::settings::{self, below, reference};
 use crate::{score, Event, Refused, Settings};
 
-/// Lists the events of a recording into `room`, eight numbers each: how many there are, or the refusal.
+/// Lists the events of a recording into `room`, eleven numbers each: how many there are, or the refusal.
 pub fn list(s: &Settings, samples: &[i32], room: &mut [u64]) -> Result<u64, Refused> {
     settings::check(s)?;
     recording::check(s, samples)?;
@@ -43,26 +43,29 @@ fn runs(s: &Settings, halves: &[Half], kind: Kind) -> Vec<(usize, usize)> {
     runs
 }
 
-/// The eight numbers of the event of one kind from start to end.
+/// The eleven numbers of the event of one kind from start to end.
 fn event(s: &Settings, samples: &[i32], halves: &[Half], kind: Kind, start: usize, end: usize) -> Event {
     let start_seen = start > 0 && halves[start - 1].is_some();
     let end_seen = end < halves.len() && halves[end].is_some();
     let within: Vec<[u64; 3]> = halves[start..end].iter().map(|half| half.expect("known in an event")).collect();
     let sums = within.iter().flatten();
     let extreme = *if kind == Kind::Swell { sums.max() } else { sums.min() }.unwrap();
-    let (shortfall, class) = match kind {
+    let own = |channel: usize| within.iter().map(|sums| sums[channel]).collect::<Vec<u64>>();
+    let (shortfall, class, [a, b, c]) = match kind {
         Kind::Sag => {
             let deepest = start + within.iter().position(|sums| sums.contains(&extreme)).unwrap();
-            (shortfall(s, &within), recording::sag_type(s, samples, deepest as u64))
+            let class = recording::sag_type(s, samples, deepest as u64);
+            (shortfall(s, within.as_flattened()), class, [0, 1, 2].map(|channel| shortfall(s, &own(channel))))
         }
-        _ => (0, 0),
+        _ => (0, 0, [0; 3]),
     };
     let seen = u64::from(start_seen) + 2 * u64::from(end_seen);
-    [kind as u64, start as u64, end as u64, seen, extreme, score::retained(s, extreme), shortfall, class]
+    let (start, end, retained) = (start as u64, end as u64, score::retained(s, extreme));
+    [kind as u64, start, end, seen, extreme, retained, shortfall, class, a, b, c]
 }
 
-/// What each channel lacks of the reference, wherever it is itself below the sag threshold.
-fn shortfall(s: &Settings, within: &[[u64; 3]]) -> u64 {
-    let low = within.iter().flatten().filter(|&&sum| below(s, sum, s.sag));
+/// What the channels with these sums lack of the reference, wherever one is itself below the sag threshold.
+fn shortfall(s: &Settings, sums: &[u64]) -> u64 {
+    let low = sums.iter().filter(|&&sum| below(s, sum, s.sag));
     low.map(|&sum| (reference(s) - u128::from(sum)) as u64).sum()
 }

@@ -43,11 +43,12 @@ pub fn add(table: &mut Table, samples: &[i32]) -> Result<(), Refused> {
 /// Counts the events into the table.
 fn count(table: &mut Table, s: &Settings, events: &[Event]) {
     for event in events {
-        let [kind, _, _, seen, _, _, shortfall, _] = *event;
+        let [kind, _, _, seen, _, _, shortfall, _, parts @ ..] = *event;
         match kind {
             SAG => {
                 table[at::SAGS] += 1;
                 table[at::SHORTFALL] += shortfall;
+                table[at::PARTS..].iter_mut().zip(parts).for_each(|(sum, part)| *sum += part);
                 let placed = if seen == 3 { at::CELLS + score::cell(s, event) as usize } else { at::UNPLACED };
                 table[placed] += 1;
             }
@@ -112,7 +113,7 @@ struct Open {
     start_seen: bool,
     extreme: u64,
     extreme_at: u64,
-    shortfall: u64,
+    short: [u64; 3],
 }
 
 /// One kind's watch over the half-cycles. The limits stand at 10,000 times a sum of squares.
@@ -163,7 +164,7 @@ impl Watch {
         }
         if self.open.is_none() && self.launches(sums) {
             let extreme = if self.kind == SWELL { 0 } else { u64::MAX };
-            self.open = Some(Open { start: k, start_seen: before_known, extreme, extreme_at: k, shortfall: 0 });
+            self.open = Some(Open { start: k, start_seen: before_known, extreme, extreme_at: k, short: [0; 3] });
         }
         self.note(k, sums);
         None
@@ -174,13 +175,13 @@ impl Watch {
         let Some(open) = &mut self.open else {
             return;
         };
-        for sum in sums {
+        for (short, sum) in open.short.iter_mut().zip(sums) {
             if if self.kind == SWELL { sum > open.extreme } else { sum < open.extreme } {
                 open.extreme = sum;
                 open.extreme_at = k;
             }
             if self.kind == SAG && 10_000 * sum < self.launch {
-                open.shortfall += self.reference - sum;
+                *short += self.reference - sum;
             }
         }
     }
@@ -189,6 +190,7 @@ impl Watch {
         let seen = u64::from(open.start_seen) + 2 * u64::from(end_seen);
         let retained = score::retained(s, open.extreme);
         let class = if self.kind == SAG { recording::sag_type(s, samples, open.extreme_at) } else { 0 };
-        [self.kind, open.start, end, seen, open.extreme, retained, open.shortfall, class]
+        let [a, b, c] = open.short;
+        [self.kind, open.start, end, seen, open.extreme, retained, a + b + c, class, a, b, c]
     }
 }

@@ -44,20 +44,26 @@ pub fn reason(s: &Settings, e: &Event) -> u64 {
     }
 }
 
-/// Whether eight numbers can be an event at all, under good settings.
+/// Whether eleven numbers can be an event at all, under good settings.
 fn is_event(s: &Settings, e: &Event) -> bool {
-    let [kind, start, end, seen, extreme, retained_value, shortfall, class] = *e;
+    let [kind, start, end, seen, extreme, retained_value, shortfall, class, parts @ ..] = *e;
     let possible = (1..=3).contains(&kind)
         && start < end
         && end <= LONGEST
         && seen <= 3
         && u128::from(extreme) <= u128::from(s.n) * 10_000_000_000
-        && retained_value == retained(s, extreme);
+        && retained_value == retained(s, extreme)
+        && adds_up(shortfall, parts);
     let of_its_kind = |h: u64| match kind {
         1 => below(s, extreme, s.sag) && u128::from(shortfall) <= 3 * reference(s) * u128::from(h) && class <= 6,
         _ => shortfall == 0 && class == 0,
     };
     possible && of_its_kind(end - start)
+}
+
+/// Whether the shortfalls of a, b and c add up to the whole. They may be anything, so the sum is taken in 128 bits.
+fn adds_up(whole: u64, parts: [u64; 3]) -> bool {
+    parts.map(u128::from).iter().sum::<u128>() == u128::from(whole)
 }
 
 /// The curve's value for h half-cycles, in thousandths of R.
@@ -89,7 +95,7 @@ pub fn score(s: &Settings, e: &Event) -> Result<Score, u64> {
 }
 
 fn floats(s: &Settings, e: &Event) -> Score {
-    let [_, start, end, _, _, retained_value, shortfall, _] = *e;
+    let [_, start, end, _, _, retained_value, shortfall, ..] = *e;
     let lost = 1000 - retained_value;
     let allowed = 1000 - curve(s, end - start);
     Score { severity: lost as f64 / allowed as f64, energy: milliseconds(s, shortfall) as f64 / 1000.0 }

@@ -17,6 +17,8 @@ pub mod at {
     pub const INTERRUPTIONS: usize = 53;
     pub const SWELLS: usize = 54;
     pub const SHORTFALL: usize = 55;
+    /// The shortfalls of a, b and c.
+    pub const PARTS: usize = 56;
 }
 
 /// The settings that a table holds.
@@ -54,6 +56,7 @@ pub fn sound(t: &Table) -> bool {
         && sum(at::CELLS..=at::UNPLACED) == u128::from(t[at::SAGS])
         && t[at::SAGS..=at::SWELLS].iter().all(|&events| events <= t[at::TOTAL])
         && u128::from(t[at::SHORTFALL]) <= 3 * reference(&s) * u128::from(t[at::TOTAL])
+        && sum(at::PARTS..=at::PARTS + 2) == u128::from(t[at::SHORTFALL])
 }
 
 /// Refusal 8, where the table has no room for so many half-cycles more. The table is sound.

@@ -179,9 +179,9 @@ impl Marks {
         half.known & between(half.sums[0]) & between(half.sums[1]) & between(half.sums[2])
     }
 
-    /// What the channels lack of the reference, wherever one is itself below the sag threshold.
-    fn shortfall(&self, sums: [u64; 3]) -> u64 {
-        sums.map(|sum| if sum < self.sag { self.reference - sum } else { 0 }).iter().sum()
+    /// What each channel lacks of the reference, wherever it is itself below the sag threshold.
+    fn short(&self, sums: [u64; 3]) -> [u64; 3] {
+        sums.map(|sum| if sum < self.sag { self.reference - sum } else { 0 })
     }
 }
 
@@ -196,7 +196,7 @@ struct Open {
     start_seen: bool,
     extreme: u64,
     extreme_at: Half,
-    shortfall: u64,
+    short: [u64; 3],
 }
 
 /// An event that has ended.
@@ -257,7 +257,7 @@ impl<E: FnMut(Ended)> Watch<E> {
         self.turn(Kind::Interruption, half, interruption, least);
         self.turn(Kind::Swell, half, swell, greatest);
         if let Some(sag) = &mut self.open[0] {
-            sag.shortfall += self.marks.shortfall(half.sums);
+            sag.short.iter_mut().zip(self.marks.short(half.sums)).for_each(|(sum, short)| *sum += short);
         }
         self.counts.disturbed += u64::from(!self.is_calm());
     }
@@ -273,7 +273,7 @@ impl<E: FnMut(Ended)> Watch<E> {
             Some(open) if exceeds(kind, sum, open.extreme) => (open.extreme, open.extreme_at) = (sum, *half),
             None if launches => {
                 let start_seen = half.k > self.known_from;
-                *going_on = Some(Open { start: half.k, start_seen, extreme: sum, extreme_at: *half, shortfall: 0 });
+                *going_on = Some(Open { start: half.k, start_seen, extreme: sum, extreme_at: *half, short: [0; 3] });
             }
             _ => {}
         }
@@ -322,12 +322,13 @@ fn insert(events: &mut Vec<Event>, event: Event) {
     events.insert(place, event);
 }
 
-/// The eight numbers of an event.
+/// The eleven numbers of an event.
 fn event(s: &Settings, samples: &[i32], ended: &Ended) -> Event {
     let Ended { kind, open, end, end_seen } = ended;
     let seen = u64::from(open.start_seen) + 2 * u64::from(*end_seen);
     let class = if *kind == Kind::Sag { sag_type(s, samples, &open.extreme_at) } else { 0 };
-    [*kind as u64, open.start, *end, seen, open.extreme, retained(s, open.extreme), open.shortfall, class]
+    let [a, b, c] = open.short;
+    [*kind as u64, open.start, *end, seen, open.extreme, retained(s, open.extreme), a + b + c, class, a, b, c]
 }
 
 /// The whole number nearest to 1000 V / R, halves upward: of twice 1000 V / R, rounded down, the half, rounded up. Its square
@@ -379,7 +380,8 @@ fn count(table: &mut Table, s: &Settings, ended: &Ended) {
     match kind {
         Kind::Sag => {
             table[at::SAGS] += 1;
-            table[at::SHORTFALL] += open.shortfall;
+            table[at::SHORTFALL] += open.short.iter().sum::<u64>();
+            table[at::PARTS..].iter_mut().zip(open.short).for_each(|(sum, short)| *sum += short);
             let both_seen = open.start_seen && *end_seen;
             table[if both_seen { at::CELLS + cell(s, open.extreme, end - open.start) } else { at::UNPLACED }] += 1;
         }

@@ -37,6 +37,9 @@ fn count_events(table: &mut Table, events: &[Event]) {
         let both_seen = sag[3] == 3;
         table[if both_seen { at::CELLS + cell(&s, sag) as usize } else { at::UNPLACED }] += 1;
         table[at::SHORTFALL] += sag[6];
+        for channel in 0..3 {
+            table[at::PARTS + channel] += sag[8 + channel];
+        }
     }
     table[at::SAGS] += of(1).count() as u64;
     table[at::INTERRUPTIONS] += of(2).count() as u64;

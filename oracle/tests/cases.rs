@@ -2,12 +2,15 @@
 //! swift form and the proved library give the same answers, and the cases reach every corner that can be told from an answer.
 use oracle::cases::{sections, text, Answer, Asked, Program, FILE, SECOND};
 use oracle::score::beside_the_steps;
-use oracle::{plain, swift, Settings};
+use oracle::site::at;
+use oracle::{fresh, plain, swift, Refused, Settings, Table, WORDS};
 use std::collections::BTreeSet;
 
-const LINEAR: Program = Program { list: plain::list, add: plain::add, ..SECOND };
+const LINEAR: Program =
+    Program { list: plain::list, add: plain::add, shortfalls: |s, samples| added(plain::add, s, samples), ..SECOND };
 
-const SWIFT: Program = Program { list: swift::list, add: swift::add, ..SECOND };
+const SWIFT: Program =
+    Program { list: swift::list, add: swift::add, shortfalls: |s, samples| added(swift::add, s, samples), ..SECOND };
 
 const PROVED: Program = Program {
     list: host::list,
@@ -16,7 +19,16 @@ const PROVED: Program = Program {
     score: host::score,
     reason: host::reason,
     cell: host::cell,
+    shortfalls: |s, samples| added(host::add, s, samples),
 };
+
+/// What a recording adds to a fresh table's shortfalls of a, b and c: the other programs have no straight sums, and these have to
+/// equal them.
+fn added(add: fn(&mut Table, &[i32]) -> Result<(), Refused>, s: &Settings, samples: &[i32]) -> [u64; 3] {
+    let mut table = fresh(s).1;
+    add(&mut table, samples).expect("an accepted recording");
+    [0, 1, 2].map(|channel| table[at::PARTS + channel])
+}
 
 #[test]
 fn the_file_is_what_the_second_program_writes() {
@@ -66,16 +78,20 @@ struct Reached {
     columns: BTreeSet<(u64, u64)>,
     /// f, and how many half-cycles a sag that has a score lasts.
     lasting: BTreeSet<(u64, u64)>,
+    /// Which of a, b and c lack something, in a sag of a list and straight from the samples.
+    lacking: BTreeSet<[bool; 3]>,
+    straight: BTreeSet<[bool; 3]>,
 }
 
 impl Reached {
     fn note(&mut self, asked: &Asked, answer: &Answer) {
         match (asked, answer) {
             (Asked::List { .. }, Answer::List { told: Ok(events), run }) => {
-                for event in run.chunks_exact(8).take(*events as usize) {
+                for event in run.chunks_exact(WORDS).take(*events as usize) {
                     self.kinds_and_seen.insert((event[0], event[3]));
                     if event[0] == 1 {
                         self.types.insert(event[7]);
+                        self.lacking.insert([event[8], event[9], event[10]].map(|part| part > 0));
                     }
                 }
             }
@@ -95,6 +111,9 @@ impl Reached {
                     self.columns.insert((*f, cell % 8));
                     self.lasting.insert((*f, event[2] - event[1]));
                 }
+            }
+            (Asked::Straight { .. }, Answer::Sums(sums)) => {
+                self.straight.insert(sums.map(|sum| sum > 0));
             }
             _ => {}
         }
@@ -118,6 +137,14 @@ fn every_corner_is_reached() {
     assert_eq!(reached.reasons, (0..=6).collect());
     assert_eq!(reached.rows, (0..=4).collect());
     assert_eq!(reached.columns, columns.collect());
+    let each_alone = [[true, false, false], [false, true, false], [false, false, true]];
+    assert_eq!(
+        reached.lacking.len(),
+        7,
+        "a sag lacks something on one channel, on two or on all: {:?}",
+        reached.lacking
+    );
+    assert!(each_alone.iter().all(|one| reached.straight.contains(one)), "{:?}", reached.straight);
     for lasts in [50, 60].into_iter().flat_map(|f| beside_the_steps(f).map(move |h| (f, h))) {
         assert!(reached.lasting.contains(&lasts), "{lasts:?}");
     }

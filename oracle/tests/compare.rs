@@ -3,7 +3,8 @@
 //! in one sag.
 use oracle::compare::{draw, of_the_oracle, run, Case, Drawn, Report, Until};
 use oracle::score::beside_the_steps;
-use oracle::{plain, recording, settings, site, swift, Event, Refused, Settings, Table};
+use oracle::site::at;
+use oracle::{plain, recording, settings, site, swift, Event, Refused, Settings, Table, WORDS};
 use std::collections::BTreeSet;
 use std::process::Command;
 
@@ -148,6 +149,32 @@ fn sags_over_each_interruption(s: &Settings, samples: &[i32]) -> Vec<usize> {
     of(2).map(over).collect()
 }
 
+/// What the parts are held to: with two channels' parts exchanged, many of the drawn lists and tables would read otherwise.
+#[test]
+fn exchanged_channels_would_show() {
+    let (mut with_a_sag, mut unequal) = (0, [0; 3]);
+    for number in 0..20_000 {
+        let case = draw(SEED + 3, number).case;
+        let (settings, samples) = match &case {
+            Case::List { settings, samples, .. } => (*settings, samples),
+            Case::Add { table, samples } => (site::settings(table), samples),
+            Case::Fresh { .. } | Case::Score { .. } => continue,
+        };
+        if settings::check(&settings).is_err() || recording::check(&settings, samples).is_err() {
+            continue;
+        }
+        let sags: Vec<Event> =
+            plain::walk(&settings, samples).events.into_iter().filter(|event| event[0] == 1).collect();
+        let differ = |one: usize, other: usize| sags.iter().any(|sag| sag[8 + one] != sag[8 + other]);
+        with_a_sag += u64::from(!sags.is_empty());
+        for (count, (one, other)) in unequal.iter_mut().zip([(0, 1), (1, 2), (2, 0)]) {
+            *count += u64::from(differ(one, other));
+        }
+    }
+    assert!(with_a_sag > 5_000, "{with_a_sag} recordings with a sag");
+    assert!(unequal.iter().all(|&count| 2 * count > with_a_sag), "{unequal:?} of {with_a_sag}");
+}
+
 /// What the drawn cases reach, by the second program's answers.
 #[derive(Default)]
 struct Reached {
@@ -161,6 +188,12 @@ struct Reached {
     samples_per_cycle: BTreeSet<u64>,
     /// f, and how many half-cycles a sag that has a score lasts.
     lasting: BTreeSet<(u64, u64)>,
+    /// Which of a, b and c lack something in a sag.
+    lacking: BTreeSet<[bool; 3]>,
+    /// Of events, with their kind, and of tables, by how much the three parts miss where nothing else is wrong; of tables also
+    /// whether no part is larger than the whole.
+    parts_of_events: BTreeSet<(u64, Miss)>,
+    parts_of_tables: BTreeSet<(Miss, bool)>,
 }
 
 impl Reached {
@@ -173,10 +206,13 @@ impl Reached {
                 if first(0) == 0 {
                     self.samples_per_cycle.insert(settings.n);
                     let words = &answer[2].1[..*room];
-                    self.note_events(&words[..8 * first(1) as usize]);
+                    self.note_events(&words[..WORDS * first(1) as usize]);
                 }
             }
-            Case::Add { .. } => drop(self.add_refusals.insert(first(0))),
+            Case::Add { table, .. } => {
+                self.add_refusals.insert(first(0));
+                self.note_shortfalls(table);
+            }
             Case::Fresh { .. } => drop(self.fresh_places.insert(first(1))),
             Case::Score { settings, event } => {
                 self.reasons.insert(first(0));
@@ -184,17 +220,61 @@ impl Reached {
                 if first(0) == 0 {
                     self.lasting.insert((settings.f, event[2] - event[1]));
                 }
+                self.note_parts(settings, event);
             }
         }
     }
 
     fn note_events(&mut self, words: &[u64]) {
-        for event in words.chunks(8) {
+        for event in words.chunks(WORDS) {
             self.kinds_and_seen.insert((event[0], event[3]));
             if event[0] == 1 {
                 self.types.insert(event[7]);
+                self.lacking.insert([event[8], event[9], event[10]].map(|part| part > 0));
             }
         }
+    }
+
+    /// An event that nothing but its parts keeps from being one.
+    fn note_parts(&mut self, s: &Settings, event: &Event) {
+        let [kind, .., shortfall, _, a, b, c] = *event;
+        let mut mended = *event;
+        mended[8..].copy_from_slice(&[shortfall, 0, 0]);
+        if oracle::reason(s, event) == 5 && oracle::reason(s, &mended) != 5 {
+            self.parts_of_events.insert((kind, miss(shortfall, [a, b, c])));
+        }
+    }
+
+    /// A table that nothing but its three sums keeps from being sound.
+    fn note_shortfalls(&mut self, table: &Table) {
+        let parts = [0, 1, 2].map(|channel| table[at::PARTS + channel]);
+        let whole = table[at::SHORTFALL];
+        let mut mended = *table;
+        mended[at::PARTS..].copy_from_slice(&[whole, 0, 0]);
+        if !site::sound(table) && site::sound(&mended) {
+            let none_above = parts.iter().all(|&part| part <= whole);
+            self.parts_of_tables.insert((miss(whole, parts), none_above));
+        }
+    }
+}
+
+/// By how much three parts miss their whole.
+#[derive(Clone, Copy, Debug, PartialEq, Eq, PartialOrd, Ord)]
+enum Miss {
+    OneLess,
+    OneMore,
+    /// By 2^64 or twice that: modulo 2^64 they make it up.
+    Turns,
+    Otherwise,
+}
+
+fn miss(whole: u64, parts: [u64; 3]) -> Miss {
+    let sum: u128 = parts.map(u128::from).iter().sum();
+    match sum.wrapping_sub(u128::from(whole)) {
+        u128::MAX => Miss::OneLess,
+        1 => Miss::OneMore,
+        by if by as u64 == 0 => Miss::Turns,
+        _ => Miss::Otherwise,
     }
 }
 
@@ -212,6 +292,15 @@ fn the_cases_reach_every_corner() {
     assert_eq!(reached.kinds_and_seen, (1..=3).flat_map(|kind| (0..=3).map(move |seen| (kind, seen))).collect());
     assert_eq!(reached.types, (0..=6).collect());
     assert_eq!(reached.samples_per_cycle, (4..=256).map(|half| 2 * half).collect());
+    assert_eq!(reached.lacking.len(), 7, "{:?}", reached.lacking);
+    // The other kinds have no shortfall, which nothing is one less than.
+    let misses = [(1, Miss::OneLess), (1, Miss::OneMore), (2, Miss::OneMore), (3, Miss::OneMore)];
+    for missed in misses.into_iter().chain((1..=3).map(|kind| (kind, Miss::Turns))) {
+        assert!(reached.parts_of_events.contains(&missed), "{missed:?} of {:?}", reached.parts_of_events);
+    }
+    for missed in [(Miss::OneLess, true), (Miss::OneMore, true), (Miss::Turns, false), (Miss::Turns, true)] {
+        assert!(reached.parts_of_tables.contains(&missed), "{missed:?} of {:?}", reached.parts_of_tables);
+    }
     for lasts in [50, 60].into_iter().flat_map(|f| beside_the_steps(f).map(move |h| (f, h))) {
         assert!(reached.lasting.contains(&lasts), "{lasts:?}");
     }

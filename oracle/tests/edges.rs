@@ -2,7 +2,7 @@
 //! proved library, held to the naive program. Each answer is compared, and all lent memory.
 use oracle::recording::MISSING;
 use oracle::site::{at, FULLEST};
-use oracle::{fresh, plain, swift, Refused, Settings, Table};
+use oracle::{fresh, plain, swift, Refused, Settings, Table, TABLE, WORDS};
 
 const R: i32 = 1_000;
 
@@ -152,7 +152,7 @@ fn each_room() {
         let samples = overlapping(&s);
         let events = list(&s, &samples, 400, "room enough").unwrap();
         assert!(events >= 10, "{events} events");
-        for room in 0..8 * events as usize {
+        for room in 0..WORDS * events as usize {
             let refused = Refused { number: 7, place: events };
             assert_eq!(list(&s, &samples, room, &format!("room {room}")), Err(refused));
         }
@@ -180,7 +180,7 @@ fn tables_full_and_unsound() {
     let mut grown = fresh(&s).1;
     oracle::add(&mut grown, &samples).unwrap();
     assert_eq!(add(&grown, &samples, "a table that has grown"), Ok(()));
-    for word in at::TOTAL..at::INTERRUPTIONS {
+    for word in (at::TOTAL..at::INTERRUPTIONS).chain(at::SHORTFALL..TABLE) {
         let mut unsound = grown;
         unsound[word] += 1;
         assert_eq!(add(&unsound, &bad, &format!("word {word}")), Err(Refused { number: 9, place: 0 }));

@@ -1,15 +1,22 @@
-//! The known answers K1 to K12 of the rules, sags on both sides of the curve's last step, and each retained value at both of its
-//! ends, held against the second program, its linear and its swift form, and the proved library.
+//! The known answers K1 to K12 of the rules, sags on both sides of the curve's last step, each retained value at both of its ends,
+//! and shortfalls of a, b and c that add up or don't, held against the second program, its linear and its swift form, and the
+//! proved library.
 use oracle::recording::MISSING;
 use oracle::score::{first_sum, sum_at};
 use oracle::site::at;
-use oracle::{Event, Refused, Settings, Table, TABLE};
+use oracle::{Event, Refused, Settings, Table, TABLE, WORDS};
 
 const SETTINGS: Settings = Settings { n: 8, r: 1_000, f: 50, sag: 90, interruption: 10, swell: 110, hysteresis: 2 };
 
 /// Blocks of four equal samples, the channels equal.
 fn blocks(levels: &[i32]) -> Vec<i32> {
     levels.iter().flat_map(|&level| [level; 12]).collect()
+}
+
+/// 1000 1000 v v 1000 1000, with a v for each channel.
+fn dip(levels: [i32; 3]) -> Vec<i32> {
+    let calm = blocks(&[1000, 1000]);
+    [&calm[..], &levels.repeat(8), &calm].concat()
 }
 
 type Lister = fn(&Settings, &[i32], &mut [u64]) -> Result<u64, Refused>;
@@ -28,8 +35,8 @@ fn assert_listed(samples: &[i32], events: &[Event]) {
     for (program, list, _) in PROGRAMS {
         let mut room = [77; 40];
         assert_eq!(list(&SETTINGS, samples, &mut room), Ok(events.len() as u64), "{program}");
-        assert_eq!(room[..8 * events.len()], events.concat(), "{program}");
-        assert!(room[8 * events.len()..].iter().all(|&word| word == 77), "{program} wrote beyond the last event");
+        assert_eq!(room[..WORDS * events.len()], events.concat(), "{program}");
+        assert!(room[WORDS * events.len()..].iter().all(|&word| word == 77), "{program} wrote beyond the last event");
     }
 }
 
@@ -55,6 +62,11 @@ fn assert_not_scored(event: Event, why: u64) {
     ] {
         assert_eq!((score, reason, cell), (Err(why), why, 40));
     }
+}
+
+/// Where a table has its shortfalls, with what they are: that of all three channels, and that of each.
+fn shortfalls(whole: u64, [a, b, c]: [u64; 3]) -> [(usize, u64); 4] {
+    [(at::SHORTFALL, whole), (at::PARTS, a), (at::PARTS + 1, b), (at::PARTS + 2, c)]
 }
 
 /// What a fresh table holds after the recording: healthy, disturbed and unknown, then each word named by its place.
@@ -84,10 +96,11 @@ fn k1_a_quiet_recording_has_no_event() {
 #[test]
 fn k2_half_the_voltage_for_a_cycle() {
     let samples = blocks(&[1000, 1000, 500, 500, 1000, 1000]);
-    let sag = [1, 1, 4, 3, 2_000_000, 500, 36_000_000, 0];
+    let sag = [1, 1, 4, 3, 2_000_000, 500, 36_000_000, 0, 12_000_000, 12_000_000, 12_000_000];
     assert_listed(&samples, &[sag]);
     assert_scored(sag, 17, 1.0, 45.0);
-    assert_added(&samples, [2, 3, 0], &[(at::CELLS + 17, 1), (at::SAGS, 1), (at::SHORTFALL, 36_000_000)]);
+    let [whole, a, b, c] = shortfalls(36_000_000, [12_000_000; 3]);
+    assert_added(&samples, [2, 3, 0], &[(at::CELLS + 17, 1), (at::SAGS, 1), whole, a, b, c]);
 }
 
 #[test]
@@ -100,47 +113,54 @@ fn k3_on_the_threshold_is_not_below_it() {
 #[test]
 fn k4_one_unit_below_the_threshold() {
     let samples = blocks(&[1000, 1000, 899, 899, 1000, 1000]);
-    let sag = [1, 2, 3, 3, 6_465_608, 899, 4_603_176, 0];
+    let sag = [1, 2, 3, 3, 6_465_608, 899, 4_603_176, 0, 1_534_392, 1_534_392, 1_534_392];
     assert_listed(&samples, &[sag]);
     assert_scored(sag, 32, 0.101, 5.0);
-    assert_added(&samples, [4, 1, 0], &[(at::CELLS + 32, 1), (at::SAGS, 1), (at::SHORTFALL, 4_603_176)]);
+    let [whole, a, b, c] = shortfalls(4_603_176, [1_534_392; 3]);
+    assert_added(&samples, [4, 1, 0], &[(at::CELLS + 32, 1), (at::SAGS, 1), whole, a, b, c]);
 }
 
 #[test]
 fn k5_a_sag_ends_above_the_hysteresis_only() {
     let samples = blocks(&[1000, 899, 899, 919, 919, 920, 920]);
-    let sag = [1, 1, 5, 3, 6_465_608, 899, 4_603_176, 0];
+    let sag = [1, 1, 5, 3, 6_465_608, 899, 4_603_176, 0, 1_534_392, 1_534_392, 1_534_392];
     assert_listed(&samples, &[sag]);
     assert_scored(sag, 33, 0.202, 5.0);
+    let [whole, a, b, c] = shortfalls(4_603_176, [1_534_392; 3]);
+    assert_added(&samples, [2, 4, 0], &[(at::CELLS + 33, 1), (at::SAGS, 1), whole, a, b, c]);
 }
 
 #[test]
 fn k6_an_interruption_within_a_sag() {
     let samples = blocks(&[1000, 1000, 0, 0, 1000, 1000]);
-    let sag = [1, 1, 4, 3, 0, 0, 48_000_000, 0];
-    let interruption = [2, 2, 3, 3, 0, 0, 0, 0];
+    let sag = [1, 1, 4, 3, 0, 0, 48_000_000, 0, 16_000_000, 16_000_000, 16_000_000];
+    let interruption = [2, 2, 3, 3, 0, 0, 0, 0, 0, 0, 0];
     assert_listed(&samples, &[sag, interruption]);
     assert_scored(sag, 1, 2.0, 60.0);
     assert_not_scored(interruption, 4);
-    let counts = [(at::CELLS + 1, 1), (at::SAGS, 1), (at::INTERRUPTIONS, 1), (at::SHORTFALL, 48_000_000)];
+    let [whole, a, b, c] = shortfalls(48_000_000, [16_000_000; 3]);
+    let counts = [(at::CELLS + 1, 1), (at::SAGS, 1), (at::INTERRUPTIONS, 1), whole, a, b, c];
     assert_added(&samples, [2, 3, 0], &counts);
 }
 
 #[test]
 fn k7_rows_go_by_the_exact_extreme() {
     let samples = blocks(&[1000, 1000, 100, 101, 1000, 1000]);
-    let sag = [1, 1, 4, 3, 80_804, 101, 47_515_176, 0];
+    let sag = [1, 1, 4, 3, 80_804, 101, 47_515_176, 0, 15_838_392, 15_838_392, 15_838_392];
     assert_listed(&samples, &[sag]);
     assert_scored(sag, 9, 1.798, 59.0);
+    let [whole, a, b, c] = shortfalls(47_515_176, [15_838_392; 3]);
+    assert_added(&samples, [2, 3, 0], &[(at::CELLS + 9, 1), (at::SAGS, 1), whole, a, b, c]);
 }
 
 #[test]
 fn k8_a_start_not_seen() {
     let samples = blocks(&[500, 500, 1000, 1000]);
-    let sag = [1, 0, 2, 2, 2_000_000, 500, 27_000_000, 0];
+    let sag = [1, 0, 2, 2, 2_000_000, 500, 27_000_000, 0, 9_000_000, 9_000_000, 9_000_000];
     assert_listed(&samples, &[sag]);
     assert_not_scored(sag, 1);
-    assert_added(&samples, [1, 2, 0], &[(at::UNPLACED, 1), (at::SAGS, 1), (at::SHORTFALL, 27_000_000)]);
+    let [whole, a, b, c] = shortfalls(27_000_000, [9_000_000; 3]);
+    assert_added(&samples, [1, 2, 0], &[(at::UNPLACED, 1), (at::SAGS, 1), whole, a, b, c]);
 }
 
 #[test]
@@ -148,19 +168,20 @@ fn k9_a_missing_sample_cuts_a_sag_in_two() {
     for lost in 4 * 12..5 * 12 {
         let mut samples = blocks(&[1000, 1000, 500, 500, 500, 500, 1000, 1000]);
         samples[lost] = MISSING;
-        let before = [1, 1, 3, 1, 2_000_000, 500, 27_000_000, 0];
-        let after = [1, 5, 6, 2, 5_000_000, 791, 9_000_000, 0];
+        let before = [1, 1, 3, 1, 2_000_000, 500, 27_000_000, 0, 9_000_000, 9_000_000, 9_000_000];
+        let after = [1, 5, 6, 2, 5_000_000, 791, 9_000_000, 0, 3_000_000, 3_000_000, 3_000_000];
         assert_listed(&samples, &[before, after]);
         assert_not_scored(before, 2);
         assert_not_scored(after, 1);
-        assert_added(&samples, [2, 3, 2], &[(at::UNPLACED, 2), (at::SAGS, 2), (at::SHORTFALL, 36_000_000)]);
+        let [whole, a, b, c] = shortfalls(36_000_000, [12_000_000; 3]);
+        assert_added(&samples, [2, 3, 2], &[(at::UNPLACED, 2), (at::SAGS, 2), whole, a, b, c]);
     }
 }
 
 #[test]
 fn k10_a_swell() {
     let samples = blocks(&[1000, 1000, 1200, 1200, 1000, 1000]);
-    let swell = [3, 1, 4, 3, 11_520_000, 1200, 0, 0];
+    let swell = [3, 1, 4, 3, 11_520_000, 1200, 0, 0, 0, 0, 0];
     assert_listed(&samples, &[swell]);
     assert_not_scored(swell, 4);
     assert_added(&samples, [2, 3, 0], &[(at::SWELLS, 1)]);
@@ -169,24 +190,78 @@ fn k10_a_swell() {
 #[test]
 fn k11_neither_end_seen() {
     let samples = blocks(&[500, 500]);
-    let sag = [1, 0, 1, 0, 2_000_000, 500, 18_000_000, 0];
+    let sag = [1, 0, 1, 0, 2_000_000, 500, 18_000_000, 0, 6_000_000, 6_000_000, 6_000_000];
     assert_listed(&samples, &[sag]);
     assert_not_scored(sag, 3);
-    assert_added(&samples, [0, 1, 0], &[(at::UNPLACED, 1), (at::SAGS, 1), (at::SHORTFALL, 18_000_000)]);
+    let [whole, a, b, c] = shortfalls(18_000_000, [6_000_000; 3]);
+    assert_added(&samples, [0, 1, 0], &[(at::UNPLACED, 1), (at::SAGS, 1), whole, a, b, c]);
 }
 
+/// On a, as the rules have it, and on b and c. The type is Ca, Cb or Cc.
 #[test]
 fn k12_a_sag_on_one_channel() {
-    let levels = [1000, 1000, 500, 500, 1000, 1000];
-    let samples: Vec<i32> = levels.iter().flat_map(|&a| [a, 1000, 1000].repeat(4)).collect();
-    let sag = [1, 1, 4, 3, 2_000_000, 500, 12_000_000, 4];
+    for (levels, class, parts) in [
+        ([500, 1000, 1000], 4, [12_000_000, 0, 0]),
+        ([1000, 500, 1000], 5, [0, 12_000_000, 0]),
+        ([1000, 1000, 500], 6, [0, 0, 12_000_000]),
+    ] {
+        let samples = dip(levels);
+        let [a, b, c] = parts;
+        let sag = [1, 1, 4, 3, 2_000_000, 500, 12_000_000, class, a, b, c];
+        assert_listed(&samples, &[sag]);
+        assert_scored(sag, 17, 1.0, 15.0);
+        let [whole, a, b, c] = shortfalls(12_000_000, parts);
+        assert_added(&samples, [2, 3, 0], &[(at::CELLS + 17, 1), (at::SAGS, 1), whole, a, b, c]);
+    }
+}
+
+/// At 500 a channel lacks 3, 6 and 3 million, at 700 it lacks 2.04, 4.08 and 2.04. At 910 it is in the band of the hysteresis, at
+/// 1300 in a swell: it lacks nothing, and nothing is taken off the others for it.
+#[test]
+fn each_channel_lacks_what_it_lacks_itself() {
+    let samples = dip([500, 910, 700]);
+    let sag = [1, 1, 4, 3, 2_000_000, 500, 20_160_000, 3, 12_000_000, 0, 8_160_000];
     assert_listed(&samples, &[sag]);
-    assert_scored(sag, 17, 1.0, 15.0);
+    let [whole, a, b, c] = shortfalls(20_160_000, [12_000_000, 0, 8_160_000]);
+    assert_added(&samples, [2, 3, 0], &[(at::CELLS + 17, 1), (at::SAGS, 1), whole, a, b, c]);
+    let samples = dip([1300, 700, 500]);
+    let sag = [1, 1, 4, 3, 2_000_000, 500, 20_160_000, 4, 0, 8_160_000, 12_000_000];
+    let swell = [3, 1, 4, 3, 13_520_000, 1300, 0, 0, 0, 0, 0];
+    assert_listed(&samples, &[sag, swell]);
+    let [whole, a, b, c] = shortfalls(20_160_000, [0, 8_160_000, 12_000_000]);
+    assert_added(&samples, [2, 3, 0], &[(at::CELLS + 17, 1), (at::SAGS, 1), (at::SWELLS, 1), whole, a, b, c]);
+}
+
+/// An event of each kind, with its parts changed by one and with such as add up modulo 2^64 only. Any split that adds up will do.
+#[test]
+fn parts_of_an_event_that_add_up_or_do_not() {
+    let sag = [1, 1, 4, 3, 2_000_000, 500, 36_000_000, 0, 12_000_000, 12_000_000, 12_000_000];
+    let interruption = [2, 2, 3, 3, 0, 0, 0, 0, 0, 0, 0];
+    let swell = [3, 1, 4, 3, 11_520_000, 1200, 0, 0, 0, 0, 0];
+    let with = |mut event: Event, parts: [u64; 3]| {
+        event[8..].copy_from_slice(&parts);
+        event
+    };
+    for parts in [[36_000_000, 0, 0], [0, 36_000_000, 0], [0, 0, 36_000_000], [1, 2, 35_999_997]] {
+        assert_scored(with(sag, parts), 17, 1.0, 45.0);
+    }
+    for event in [sag, interruption, swell] {
+        for (place, by) in [(8, 1), (9, 1), (10, 1), (8, u64::MAX), (9, u64::MAX), (10, u64::MAX)] {
+            let mut beside = event;
+            beside[place] = event[place].wrapping_add(by);
+            assert_not_scored(beside, 5);
+        }
+        let whole = event[6];
+        for parts in [[1 << 63, 1 << 63, whole], [whole + 1, u64::MAX, 0], [u64::MAX, whole + 2, u64::MAX]] {
+            assert_not_scored(with(event, parts), 5);
+        }
+    }
 }
 
 /// A sag of so many half-cycles at 899 on all channels, each of which lacks what K4's lacks.
 fn at_899(half_cycles: u64) -> Event {
-    [1, 7, 7 + half_cycles, 3, 6_465_608, 899, 4_603_176 * half_cycles, 0]
+    let channel = 1_534_392 * half_cycles;
+    [1, 7, 7 + half_cycles, 3, 6_465_608, 899, 3 * channel, 0, channel, channel, channel]
 }
 
 /// 20 f half-cycles are 10 s. Up to there the curve stands at 800, after it at 900; the cell is the same.
@@ -207,7 +282,7 @@ fn beyond_10_seconds_severity_doubles() {
         let s = Settings { f, sag: 95, ..SETTINGS };
         for retained in 0..=950 {
             // The smallest sum is below the threshold for 950, too: the half below it.
-            let sag = |half_cycles| [1, 0, half_cycles, 3, first_sum(&s, retained), retained, 0, 0];
+            let sag = |half_cycles| [1, 0, half_cycles, 3, first_sum(&s, retained), retained, 0, 0, 0, 0, 0];
             for score in [oracle::score, host::score] {
                 let severity = |half_cycles| score(&s, &sag(half_cycles)).unwrap().severity;
                 let [last, first, longest] = [20 * f, 20 * f + 1, 100_000].map(severity);
@@ -230,7 +305,7 @@ fn each_retained_value_at_both_ends() {
             let whole = sum_at(&s, 2 * value);
             let sums = [first_sum(&s, value), whole.saturating_sub(1), whole, first_sum(&s, value + 1) - 1];
             for sum in sums.map(|sum| sum.min(greatest)) {
-                let swell = |retained| [3, 0, 1, 3, sum, retained, 0, 0];
+                let swell = |retained| [3, 0, 1, 3, sum, retained, 0, 0, 0, 0, 0];
                 for (program, reason) in
                     [("second program", oracle::reason as Reasoner), ("proved library", host::reason)]
                 {
@@ -249,11 +324,11 @@ fn what_is_turned_away() {
     let mut out_of_range = k2.clone();
     out_of_range[5] = 100_001;
     for (program, list, add) in PROGRAMS {
-        let mut room = [77; 7];
+        let mut room = [77; 10];
         assert_eq!(list(&SETTINGS, &[], &mut room), Err(Refused { number: 3, place: 0 }), "{program}");
         assert_eq!(list(&SETTINGS, &out_of_range, &mut room), Err(Refused { number: 6, place: 5 }), "{program}");
         assert_eq!(list(&SETTINGS, &k2, &mut room), Err(Refused { number: 7, place: 1 }), "{program}");
-        assert_eq!(room, [77; 7], "{program} wrote in spite of a refusal");
+        assert_eq!(room, [77; 10], "{program} wrote in spite of a refusal");
         let mut table = [0; TABLE];
         assert_eq!(add(&mut table, &k2), Err(Refused { number: 9, place: 0 }), "{program}");
         assert_eq!(table, [0; TABLE], "{program} changed the table in spite of a refusal");

@@ -1,6 +1,6 @@
 //! Numbers that others published, read from `vectors/`, held against the second program and the proved library.
 use oracle::compare::{three_phase, Phasors};
-use oracle::{Event, Refused, Score, Settings};
+use oracle::{Event, Refused, Score, Settings, WORDS};
 
 const SETTINGS: Settings = Settings { n: 128, r: 10_000, f: 50, sag: 90, interruption: 10, swell: 110, hysteresis: 2 };
 
@@ -35,7 +35,7 @@ fn number(word: &str) -> f64 {
 fn sag(s: &Settings, h: u64, pu: f64) -> Event {
     let thousandths = (pu * 1000.0).round() as u64;
     let extreme = s.n * s.r * s.r / 1_000_000 * thousandths * thousandths;
-    [1, 10, 10 + h, 3, extreme, thousandths, 0, 0]
+    [1, 10, 10 + h, 3, extreme, thousandths, 0, 0, 0, 0, 0]
 }
 
 #[test]
@@ -78,7 +78,7 @@ fn energy_of_the_guide() {
             *a = low;
         }
         for (lister, list) in LISTERS {
-            let mut event = [0; 8];
+            let mut event = [0; WORDS];
             assert_eq!(list(&s, &samples, &mut event), Ok(1), "{lister}");
             for (program, score) in SCORERS {
                 let energy = score(&s, &event).unwrap().energy;
@@ -120,7 +120,7 @@ fn types_of_the_synthetic_sags() {
         for (program, list) in LISTERS {
             let mut room = [0; 40];
             let events = list(&SETTINGS, &samples, &mut room).unwrap() as usize;
-            let sags: Vec<&[u64]> = room[..8 * events].chunks(8).filter(|event| event[0] == 1).collect();
+            let sags: Vec<&[u64]> = room[..WORDS * events].chunks(WORDS).filter(|event| event[0] == 1).collect();
             assert_eq!(sags.len(), 1, "{program} {words:?}");
             assert_eq!(sags[0][7], class, "{program}: type of {words:?}");
             assert_sag_of(sags[0].try_into().unwrap(), &words, program);

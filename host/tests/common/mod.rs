@@ -9,17 +9,23 @@ pub const MISSING: i32 = i32::MIN;
 /// How many numbers a block has: four samples of three channels.
 pub const BLOCK: usize = 12;
 
-/// Blocks of four equal samples, with a value for channel a and one for b and c.
-pub fn blocks_of(values: &[(i32, i32)]) -> Vec<i32> {
-    values.iter().flat_map(|&(a, b)| [a, b, b].repeat(4)).collect()
+/// Blocks of four equal samples, with a value for each channel.
+pub fn blocks_of(values: &[[i32; 3]]) -> Vec<i32> {
+    values.iter().flat_map(|channels| channels.repeat(4)).collect()
 }
 
 /// Blocks of four equal samples, channels equal.
 pub fn blocks(values: &[i32]) -> Vec<i32> {
-    blocks_of(&values.iter().map(|&v| (v, v)).collect::<Vec<_>>())
+    blocks_of(&values.iter().map(|&v| [v; 3]).collect::<Vec<_>>())
+}
+
+/// 1000 1000 v v 1000 1000, with a v for each channel.
+pub fn dip_of(v: [i32; 3]) -> Vec<i32> {
+    let healthy = [1000; 3];
+    blocks_of(&[healthy, healthy, v, v, healthy, healthy])
 }
 
 /// 1000 1000 v v 1000 1000.
 pub fn dip(v: i32) -> Vec<i32> {
-    blocks(&[1000, 1000, v, v, 1000, 1000])
+    dip_of([v; 3])
 }

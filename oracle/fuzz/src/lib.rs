@@ -3,6 +3,7 @@
 use oracle::compare::{differs, explain, Case};
 use oracle::recording::MISSING;
 use oracle::score::{beside_the_steps, retained, sum_at};
+use oracle::site::at;
 use oracle::{Event, Settings, Table, WORDS};
 
 /// The bytes, read from the front; past the end they are zeros.
@@ -87,7 +88,28 @@ fn near_event(bytes: &mut Bytes, s: &Settings) -> Event {
         253 => retained(s, extreme) + 1,
         _ => retained(s, extreme),
     };
-    [kind, start, start + h, seen, extreme, retained, shortfall, class]
+    let [a, b, c] = parts(bytes, shortfall);
+    [kind, start, start + h, seen, extreme, retained, shortfall, class, a, b, c]
+}
+
+/// Three parts of a shortfall, from a few bytes: mostly such as make it up, else one unit off, or right only modulo 2^64.
+fn parts(bytes: &mut Bytes, whole: u64) -> [u64; 3] {
+    let manner = bytes.byte();
+    let mut share = |of: u64| (u128::from(of) * u128::from(bytes.byte()) / 255) as u64;
+    let a = share(whole);
+    let b = share(whole - a);
+    let mut parts = [a, b, whole - a - b];
+    let (one, next) = (manner as usize % 3, (manner as usize + 1) % 3);
+    match manner / 16 {
+        14 => parts[one] = parts[one].wrapping_add([1, u64::MAX][manner as usize / 3 % 2]),
+        15 => {
+            let large = [1 << 63, u64::MAX][manner as usize / 3 % 2];
+            parts[one] = parts[one].wrapping_add(large);
+            parts[next] = parts[next].wrapping_sub(large);
+        }
+        _ => {}
+    }
+    parts
 }
 
 /// Good settings, unless the first byte says that they are any words.
@@ -107,10 +129,18 @@ fn settings(bytes: &mut Bytes) -> Settings {
     }
 }
 
-/// A fresh table with a few words overwritten.
+/// A fresh table, or one with half-cycles and a shortfall in three parts, and then a few words overwritten. Three words that add
+/// up to a fourth would hardly be met by chance.
 fn table(bytes: &mut Bytes, s: &Settings) -> Table {
     let mut table = oracle::fresh(s).1;
-    for _ in 0..bytes.byte() % 16 {
+    let manner = bytes.byte();
+    if manner >= 128 && oracle::settings::first_bad(s).is_none() {
+        let total = bytes.half_word();
+        let whole = bytes.word() % (3 * s.n * s.r * s.r * total + 2);
+        (table[at::TOTAL], table[at::HEALTHY], table[at::SHORTFALL]) = (total, total, whole);
+        table[at::PARTS..].copy_from_slice(&parts(bytes, whole));
+    }
+    for _ in 0..manner % 16 {
         let i = bytes.byte() as usize % table.len();
         table[i] = bytes.word();
     }

@@ -6,6 +6,7 @@ mod gaps;
 mod making;
 mod marks;
 mod nearest;
+mod parts;
 mod recording;
 mod refusals;
 mod scores;
@@ -16,7 +17,7 @@ mod types;
 pub use recording::Recording;
 pub use text::{text, FILE};
 
-use crate::{Event, Refused, Score, Settings, Table};
+use crate::{Event, Refused, Score, Settings, Table, WORDS};
 
 /// N 8, R 1,000, f 50, thresholds 90, 10, 110, hysteresis 2: those of the known answers.
 pub const HOUSE: Settings = Settings { n: 8, r: 1_000, f: 50, sag: 90, interruption: 10, swell: 110, hysteresis: 2 };
@@ -46,6 +47,7 @@ pub enum Asked {
     Add { table: Table, recording: Recording },
     Fresh { settings: Settings },
     Score { settings: Settings, event: Event },
+    Straight { settings: Settings, recording: Recording },
 }
 
 /// All that a call hands back, and what the lent run holds afterwards.
@@ -55,6 +57,7 @@ pub enum Answer {
     List { told: Result<u64, Refused>, run: Vec<u64> },
     Site { told: Result<(), Refused>, table: Table },
     Judged { reason: u64, score: Result<Score, u64>, cell: u64 },
+    Sums([u64; 3]),
 }
 
 type Lister = fn(&Settings, &[i32], &mut [u64]) -> Result<u64, Refused>;
@@ -67,6 +70,8 @@ pub struct Program {
     pub score: fn(&Settings, &Event) -> Result<Score, u64>,
     pub reason: fn(&Settings, &Event) -> u64,
     pub cell: fn(&Settings, &Event) -> u64,
+    /// The shortfalls of a, b and c in an accepted recording.
+    pub shortfalls: fn(&Settings, &[i32]) -> [u64; 3],
 }
 
 /// The one that the expected answers come from.
@@ -77,6 +82,7 @@ pub const SECOND: Program = Program {
     score: crate::score,
     reason: crate::reason,
     cell: crate::cell,
+    shortfalls: |s, samples| [0, 1, 2].map(|channel| crate::straight(s, samples, channel)),
 };
 
 impl Program {
@@ -101,6 +107,7 @@ impl Program {
                 score: (self.score)(settings, event),
                 cell: (self.cell)(settings, event),
             },
+            Asked::Straight { settings, recording } => Answer::Sums((self.shortfalls)(settings, &recording.samples())),
         }
     }
 }
@@ -127,9 +134,12 @@ pub fn sections() -> Vec<Section> {
         scores::depths(),
         scores::energies(),
         scores::not_events(),
+        parts::events(),
         making::section(),
         tables::sound(),
         tables::growing(),
+        parts::tables(),
+        parts::recordings(),
         refusals::lengths(),
         refusals::samples(),
         refusals::room(),
@@ -139,7 +149,7 @@ pub fn sections() -> Vec<Section> {
 
 /// The list of a recording, with room for its events and one number more.
 fn list(settings: Settings, recording: Recording, pins: impl Into<String>) -> Case {
-    let room = 8 * crate::list::events(&settings, &recording.samples()).len() + 1;
+    let room = WORDS * crate::list::events(&settings, &recording.samples()).len() + 1;
     Case { pins: pins.into(), asked: Asked::List { settings, room, recording } }
 }
 
@@ -163,6 +173,11 @@ fn fresh(settings: Settings, pins: impl Into<String>) -> Case {
 
 fn score(settings: Settings, event: Event, pins: impl Into<String>) -> Case {
     Case { pins: pins.into(), asked: Asked::Score { settings, event } }
+}
+
+/// What each channel lacks in a recording, straight from its samples.
+fn straight(settings: Settings, recording: Recording, pins: impl Into<String>) -> Case {
+    Case { pins: pins.into(), asked: Asked::Straight { settings, recording } }
 }
 
 /// The numbers of an event or a table, some of them changed.

@@ -41,7 +41,7 @@ fn listed() -> Vec<Case> {
 /// An extreme with a retained value, of a sag where it is below the threshold and else of a swell.
 fn judged(s: Settings, extreme: u64, retained: u64, pins: &str) -> Case {
     let is_sag = crate::settings::below(&s, extreme, s.sag);
-    score(s, [if is_sag { 1 } else { 3 }, 7, 9, 3, extreme, retained, 0, 0], pins)
+    score(s, [if is_sag { 1 } else { 3 }, 7, 9, 3, extreme, retained, 0, 0, 0, 0, 0], pins)
 }
 
 /// An extreme with the value that it has, and with those on both sides.

@@ -4,9 +4,9 @@ use super::{score, with, Case, Section, HIGH, HOUSE, TEN, WIDE};
 use crate::score::retained;
 use crate::{Event, Settings};
 
-/// A sag of so many half-cycles with both ends seen.
+/// A sag of so many half-cycles with both ends seen, on channel a.
 fn sag(s: &Settings, half_cycles: u64, extreme: u64, shortfall: u64) -> Event {
-    [1, 7, 7 + half_cycles, 3, extreme, retained(s, extreme), shortfall, 4]
+    [1, 7, 7 + half_cycles, 3, extreme, retained(s, extreme), shortfall, 4, shortfall, 0, 0]
 }
 
 pub fn durations() -> Section {
@@ -87,13 +87,19 @@ pub fn energies() -> Section {
             case(WIDE, 960_000, "f 60: a millisecond"),
             case(TEN, 8_416_808, "N 10, R 1001, f 60: 7 milliseconds are 8416808.4, the whole number below is 6"),
             case(TEN, 8_416_809, "the one above is 7"),
-            score(HOUSE, [1, 0, 100_000, 3, 0, 0, 2_400_000_000_000, 0], "the longest and deepest sag of all: 3000 s"),
+            score(HOUSE, deepest(), "the longest and deepest sag of all: 3000 s"),
         ],
     }
 }
 
-/// Where each of the eight numbers stands.
-mod of {
+/// A sag from end to end of the longest recording, with nothing left on any channel.
+fn deepest() -> Event {
+    let channel = 800_000_000_000;
+    [1, 0, 100_000, 3, 0, 0, 3 * channel, 0, channel, channel, channel]
+}
+
+/// Where each of the eleven numbers stands.
+pub mod of {
     pub const KIND: usize = 0;
     pub const START: usize = 1;
     pub const END: usize = 2;
@@ -102,28 +108,43 @@ mod of {
     pub const RETAINED: usize = 5;
     pub const SHORTFALL: usize = 6;
     pub const TYPE: usize = 7;
+    pub const A: usize = 8;
+    pub const B: usize = 9;
+    pub const C: usize = 10;
+}
+
+/// An event of each kind under the settings of the known answers, as it must be in every number.
+pub const SAG: Event = [1, 30, 32, 3, 2_000_000, 500, 12_000_000, 4, 7_000_000, 4_000_000, 1_000_000];
+pub const INTERRUPTION: Event = [2, 7, 9, 3, 20_000, 50, 0, 0, 0, 0, 0];
+pub const SWELL: Event = [3, 7, 9, 3, 9_680_001, 1100, 0, 0, 0, 0, 0];
+
+/// An event with some numbers changed, under the settings of the known answers.
+pub fn changed(event: Event, changes: &[(usize, u64)], words: &str) -> Case {
+    score(HOUSE, with(event, changes), words)
+}
+
+/// An event with another shortfall and the parts that make it up, so that these are no reason of their own.
+fn short(event: Event, parts: [u64; 3]) -> Event {
+    let [a, b, c] = parts;
+    with(event, &[(of::SHORTFALL, a + b + c), (of::A, a), (of::B, b), (of::C, c)])
 }
 
 pub fn not_events() -> Section {
-    let good = [1, 30, 32, 3, 2_000_000, 500, 12_000_000, 4];
-    let interruption = [2, 7, 9, 3, 20_000, 50, 0, 0];
-    let swell = [3, 7, 9, 3, 9_680_001, 1100, 0, 0];
     let bad = Settings { n: 9, ..HOUSE };
-    let case = |event: Event, changes: &[(usize, u64)], words: &str| score(HOUSE, with(event, changes), words);
-    let mut cases = bounds(good, interruption, swell);
+    let mut cases = bounds();
     cases.extend([
-        score(HIGH, with(swell, &[(of::EXTREME, 80_000_000_000), (of::RETAINED, 2000)]), "extreme N x 10,000,000,000"),
-        score(HIGH, with(swell, &[(of::EXTREME, 80_000_000_001), (of::RETAINED, 2000)]), "one more"),
-        case(good, &[(of::SEEN, 2)], "only the start unseen"),
-        case(good, &[(of::SEEN, 1)], "only the end unseen"),
-        case(good, &[(of::SEEN, 0)], "both unseen"),
-        case(swell, &[(of::SEEN, 0)], "a swell with both unseen: not a sag"),
-        case(interruption, &[(of::SEEN, 1)], "an interruption with its end unseen: not a sag"),
-        case(swell, &[(of::TYPE, 1), (of::SEEN, 0)], "a swell with a type and both unseen: not an event"),
-        case(good, &[(of::TYPE, 7), (of::SEEN, 2)], "a sag of type 7, its start unseen: not an event"),
-        score(bad, with(good, &[(of::KIND, 0)]), "N 9 and kind 0: settings bad"),
-        score(bad, with(swell, &[(of::SEEN, 0)]), "N 9 and a swell: settings bad"),
-        score(bad, with(good, &[(of::SEEN, 0)]), "N 9 and a sag with both unseen: settings bad"),
+        score(HIGH, with(SWELL, &[(of::EXTREME, 80_000_000_000), (of::RETAINED, 2000)]), "extreme N x 10,000,000,000"),
+        score(HIGH, with(SWELL, &[(of::EXTREME, 80_000_000_001), (of::RETAINED, 2000)]), "one more"),
+        changed(SAG, &[(of::SEEN, 2)], "only the start unseen"),
+        changed(SAG, &[(of::SEEN, 1)], "only the end unseen"),
+        changed(SAG, &[(of::SEEN, 0)], "both unseen"),
+        changed(SWELL, &[(of::SEEN, 0)], "a swell with both unseen: not a sag"),
+        changed(INTERRUPTION, &[(of::SEEN, 1)], "an interruption with its end unseen: not a sag"),
+        changed(SWELL, &[(of::TYPE, 1), (of::SEEN, 0)], "a swell with a type and both unseen: not an event"),
+        changed(SAG, &[(of::TYPE, 7), (of::SEEN, 2)], "a sag of type 7, its start unseen: not an event"),
+        score(bad, with(SAG, &[(of::KIND, 0)]), "N 9 and kind 0: settings bad"),
+        score(bad, with(SWELL, &[(of::SEEN, 0)]), "N 9 and a swell: settings bad"),
+        score(bad, with(SAG, &[(of::SEEN, 0)]), "N 9 and a sag with both unseen: settings bad"),
     ]);
     Section {
         name: "not-events",
@@ -133,36 +154,36 @@ pub fn not_events() -> Section {
 }
 
 /// Each number on the last good value and on the first bad one.
-fn bounds(good: Event, interruption: Event, swell: Event) -> Vec<Case> {
-    let case = |event: Event, changes: &[(usize, u64)], words: &str| score(HOUSE, with(event, changes), words);
+fn bounds() -> Vec<Case> {
+    let none = |start: u64| with(short(SAG, [0; 3]), &[(of::START, start)]);
     vec![
-        case(interruption, &[(of::KIND, 0)], "kind 0"),
-        case(good, &[], "kind 1, and all else as it must be"),
-        case(interruption, &[], "kind 2: not a sag"),
-        case(swell, &[], "kind 3: not a sag"),
-        case(swell, &[(of::KIND, 4)], "kind 4"),
-        case(good, &[(of::START, 31)], "start one below end"),
-        case(good, &[(of::START, 32), (of::SHORTFALL, 0)], "start at end"),
-        case(good, &[(of::START, 33), (of::SHORTFALL, 0)], "start above end"),
-        case(interruption, &[(of::START, 9)], "start at end, of an interruption"),
-        case(good, &[(of::START, 99_998), (of::END, 100_000)], "end 100,000"),
-        case(good, &[(of::START, 99_999), (of::END, 100_001)], "end 100,001"),
-        case(good, &[(of::SEEN, 4)], "seen 4"),
-        case(good, &[(of::RETAINED, 501)], "retained one more than that of the extreme"),
-        case(good, &[(of::RETAINED, 499)], "one less"),
-        case(good, &[(of::EXTREME, 1_996_002)], "the smallest S with retained 500"),
-        case(good, &[(of::EXTREME, 1_996_001)], "one unit of S less"),
-        case(good, &[(of::EXTREME, 2_004_001)], "the largest S with retained 500"),
-        case(good, &[(of::EXTREME, 2_004_002)], "one unit more"),
-        case(good, &[(of::EXTREME, 6_479_999), (of::RETAINED, 900)], "a sag's extreme one unit below the threshold"),
-        case(good, &[(of::EXTREME, 6_480_000), (of::RETAINED, 900)], "on it"),
-        case(good, &[(of::SHORTFALL, 48_000_000)], "a sag's shortfall 3 x N x R x R x h"),
-        case(good, &[(of::SHORTFALL, 48_000_001)], "one more"),
-        case(good, &[(of::TYPE, 6)], "type 6"),
-        case(good, &[(of::TYPE, 7)], "type 7"),
-        case(swell, &[(of::SHORTFALL, 1)], "a swell with a shortfall"),
-        case(swell, &[(of::TYPE, 1)], "a swell with a type"),
-        case(interruption, &[(of::SHORTFALL, 1)], "an interruption with a shortfall"),
-        case(interruption, &[(of::TYPE, 1)], "an interruption with a type"),
+        changed(INTERRUPTION, &[(of::KIND, 0)], "kind 0"),
+        changed(SAG, &[], "kind 1, and all else as it must be"),
+        changed(INTERRUPTION, &[], "kind 2: not a sag"),
+        changed(SWELL, &[], "kind 3: not a sag"),
+        changed(SWELL, &[(of::KIND, 4)], "kind 4"),
+        changed(SAG, &[(of::START, 31)], "start one below end"),
+        score(HOUSE, none(32), "start at end"),
+        score(HOUSE, none(33), "start above end"),
+        changed(INTERRUPTION, &[(of::START, 9)], "start at end, of an interruption"),
+        changed(SAG, &[(of::START, 99_998), (of::END, 100_000)], "end 100,000"),
+        changed(SAG, &[(of::START, 99_999), (of::END, 100_001)], "end 100,001"),
+        changed(SAG, &[(of::SEEN, 4)], "seen 4"),
+        changed(SAG, &[(of::RETAINED, 501)], "retained one more than that of the extreme"),
+        changed(SAG, &[(of::RETAINED, 499)], "one less"),
+        changed(SAG, &[(of::EXTREME, 1_996_002)], "the smallest S with retained 500"),
+        changed(SAG, &[(of::EXTREME, 1_996_001)], "one unit of S less"),
+        changed(SAG, &[(of::EXTREME, 2_004_001)], "the largest S with retained 500"),
+        changed(SAG, &[(of::EXTREME, 2_004_002)], "one unit more"),
+        changed(SAG, &[(of::EXTREME, 6_479_999), (of::RETAINED, 900)], "a sag's extreme one unit below the threshold"),
+        changed(SAG, &[(of::EXTREME, 6_480_000), (of::RETAINED, 900)], "on it"),
+        score(HOUSE, short(SAG, [16_000_000; 3]), "a sag's shortfall 3 x N x R x R x h"),
+        score(HOUSE, short(SAG, [16_000_000, 16_000_000, 16_000_001]), "one more"),
+        changed(SAG, &[(of::TYPE, 6)], "type 6"),
+        changed(SAG, &[(of::TYPE, 7)], "type 7"),
+        score(HOUSE, short(SWELL, [1, 0, 0]), "a swell with a shortfall, a's"),
+        changed(SWELL, &[(of::TYPE, 1)], "a swell with a type"),
+        score(HOUSE, short(INTERRUPTION, [0, 0, 1]), "an interruption with a shortfall, c's"),
+        changed(INTERRUPTION, &[(of::TYPE, 1)], "an interruption with a type"),
     ]
 }

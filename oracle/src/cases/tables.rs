@@ -1,11 +1,11 @@
 //! Site tables: sound ones and such as are unsound by one in each condition, and what a recording adds.
 use super::recording::{alike, amid, even, sines, uneven, Recording};
-use super::{add, add_first, with, Case, Section, HOUSE, TEN, WIDE};
+use super::{add, add_first, with, Case, Section, HIGH, HOUSE, TEN, WIDE};
 use crate::site::at;
 use crate::{fresh, Settings, Table, TABLE};
 
 /// Each number as large as it may be beside a total of 2.
-fn brim(s: Settings) -> Table {
+pub fn brim(s: Settings) -> Table {
     let counts = [
         (at::TOTAL, 2),
         (at::HEALTHY, 1),
@@ -15,9 +15,18 @@ fn brim(s: Settings) -> Table {
         (at::SAGS, 2),
         (at::INTERRUPTIONS, 2),
         (at::SWELLS, 2),
-        (at::SHORTFALL, 6 * s.n * s.r * s.r),
     ];
-    with(fresh(&s).1, &counts)
+    short(with(fresh(&s).1, &counts), [6 * s.n * s.r * s.r, 0, 0])
+}
+
+/// The table with the shortfalls of a, b and c, and the total that they make up.
+pub fn short(table: Table, parts: [u64; 3]) -> Table {
+    with_parts(with(table, &[(at::SHORTFALL, parts.iter().sum())]), parts)
+}
+
+/// The table with the shortfalls of a, b and c, whatever the total is.
+pub fn with_parts(table: Table, [a, b, c]: [u64; 3]) -> Table {
+    with(table, &[(at::PARTS, a), (at::PARTS + 1, b), (at::PARTS + 2, c)])
 }
 
 /// A table with so many half-cycles, all healthy, and nothing else.
@@ -42,7 +51,7 @@ const BROKEN: [Broken; 13] = [
     (&[(at::SAGS, 3), (at::UNPLACED, 2)], "sags one above the total"),
     (&[(at::INTERRUPTIONS, 3)], "interruptions one above the total"),
     (&[(at::SWELLS, 3)], "swells one above the total"),
-    (&[(at::SHORTFALL, 48_000_001)], "shortfall one above 3 x N x R x R x total"),
+    (&[(at::SHORTFALL, 48_000_001), (at::PARTS + 1, 1)], "shortfall one above 3 x N x R x R x total"),
 ];
 
 pub fn sound() -> Section {
@@ -56,7 +65,7 @@ pub fn sound() -> Section {
     ];
     cases.extend(BROKEN.map(|(changes, words)| add(with(brim(HOUSE), changes), calm(), words)));
     let ten = || alike(10, 1001, 1001, 1001);
-    let above = with(brim(TEN), &[(at::SHORTFALL, 6 * 10_020_010 + 1)]);
+    let above = short(brim(TEN), [20_040_020, 20_040_020, 20_040_021]);
     cases.extend([
         add(brim(TEN), ten(), "N 10, R 1001: shortfall on its bound"),
         add(above, ten(), "one above"),
@@ -79,13 +88,18 @@ pub fn various() -> Table {
         (at::SAGS, 4_877),
         (at::INTERRUPTIONS, 611),
         (at::SWELLS, 713),
-        (at::SHORTFALL, 1_234_567),
     ];
-    let mut table = with(fresh(&HOUSE).1, &counts);
+    let mut table = short(with(fresh(&HOUSE).1, &counts), [123_456, 345_678, 765_433]);
     for (i, cell) in table[at::CELLS..at::UNPLACED].iter_mut().enumerate() {
         *cell = 101 + i as u64;
     }
     table
+}
+
+/// A full table with so large a shortfall that three sums below it can be 2^64 above it.
+pub fn vast(parts: [u64; 3]) -> Table {
+    let counts = [(at::TOTAL, 4_000_000), (at::DISTURBED, 4_000_000), (at::SHORTFALL, 15_000_000_000_000_000_000)];
+    with_parts(with(fresh(&Settings { n: 512, ..HIGH }).1, &counts), parts)
 }
 
 /// Ten half-cycles with something of everything: a sag begun before the recording, a sag with an interruption, a swell, a gap.

@@ -1,5 +1,5 @@
 //! The text of `crates/rules/specs/Cases.antt`: the questions, and a program's answers to them.
-use super::tables::{healthy_only, various};
+use super::tables::{healthy_only, various, vast};
 use super::{sections, Answer, Asked, Case, Program, Section, HIGH, HOUSE, SHARP, TEN, WIDE};
 use crate::site::{at, settings as settings_of};
 use crate::{Refused, Settings, Table, WORDS};
@@ -7,7 +7,7 @@ use crate::{Refused, Settings, Table, WORDS};
 /// Where the file stands in the repository.
 pub const FILE: &str = concat!(env!("CARGO_MANIFEST_DIR"), "/../crates/rules/specs/Cases.antt");
 
-/// The longest line of a case.
+/// A line of a case is no longer, where there is a joint to cut it at.
 const WIDTH: usize = 130;
 
 /// What stands above the cases, and the statement below them.
@@ -88,6 +88,9 @@ impl Asked {
             }
             Asked::Fresh { settings } => format!("fresh {}", settings_text(settings)),
             Asked::Score { settings, event } => format!("score {} (event {})", settings_text(settings), joined(event)),
+            Asked::Straight { settings, recording } => {
+                format!("straight {} {}", settings_text(settings), argument(&recording.text()))
+            }
         }
     }
 }
@@ -105,6 +108,7 @@ impl Answer {
             }
             Answer::Judged { reason, score: Err(why), cell } if reason == why => format!("unscored {reason} {cell}"),
             Answer::Judged { .. } => panic!("the reason and the score disagree: {self:?}"),
+            Answer::Sums([a, b, c]) => format!("sums ({a} ∷ {b} ∷ {c} ∷ [])"),
         }
     }
 }
@@ -146,8 +150,12 @@ fn settings_text(s: &Settings) -> String {
 fn table_text(table: &Table) -> String {
     let settings = settings_text(&settings_of(table));
     let total = table[at::TOTAL];
+    let [a, b, c] = [0, 1, 2].map(|channel| table[at::PARTS + channel]);
     if *table == various() {
         return "various".to_string();
+    }
+    if *table == vast([a, b, c]) {
+        return format!("vast {a} {b} {c}");
     }
     if *table == healthy_only(total) && total > 0 {
         return format!("healthyOnly {total}");

@@ -113,7 +113,8 @@ fn product_score(s: &Settings, e: &Event) -> Answer {
     let why = unsafe {
         host::raw::burr_score(
             s.n, s.r, s.f, s.sag, s.interruption, s.swell, s.hysteresis,
-            e[0], e[1], e[2], e[3], e[4], e[5], e[6], e[7], &mut severity, &mut energy,
+            e[0], e[1], e[2], e[3], e[4], e[5], e[6], e[7], e[8], e[9], e[10],
+            &mut severity, &mut energy,
         )
     };
     scored(why, severity.to_bits(), energy.to_bits(), host::reason(s, e), host::cell(s, e))

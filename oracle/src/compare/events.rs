@@ -1,5 +1,5 @@
 //! Event words for the comparison: from real lists, changed by one, on every border, and anything at all.
-use super::recordings;
+use super::{parts, recordings};
 use crate::random::Random;
 use crate::score::{retained, sum_at};
 use crate::settings::{first_bad, reference};
@@ -17,7 +17,7 @@ pub fn listed(s: &Settings, samples: &[i32]) -> Vec<Event> {
     words.chunks_exact(WORDS).map(|words| words.try_into().unwrap()).collect()
 }
 
-/// Any eight numbers, under settings that may be bad; with them the near blocks of the recording that they are from.
+/// Any eleven numbers, under settings that may be bad; with them the near blocks of the recording that they are from.
 pub fn any(random: &mut Random, s: &Settings) -> (Event, u64) {
     let (mut event, near) = match random.below(8) {
         0 => real(random, s),
@@ -68,7 +68,9 @@ fn bordering(random: &mut Random, s: &Settings) -> Event {
         _ => random.below(most.max(1)),
     };
     let (shortfall, class) = if kind == 1 || random.once_in(4) { (lost, random.below(8)) } else { (0, 0) };
-    [kind, start, end, seen, extreme, retained_or_not(random, s, extreme), shortfall, class]
+    let retained = retained_or_not(random, s, extreme);
+    let [a, b, c] = parts::any(random, shortfall);
+    [kind, start, end, seen, extreme, retained, shortfall, class, a, b, c]
 }
 
 /// A number of half-cycles where the curve steps, a column begins, or anything.
@@ -81,12 +83,13 @@ fn duration(random: &mut Random, s: &Settings) -> u64 {
     }
 }
 
-/// A sum where a row begins, at a threshold, at a whole thousandth or a half, or anything allowed; the first beyond, too.
+/// A sum where a row begins, at a threshold, in the last row, which is narrow, at a whole thousandth or a half, or anything
+/// allowed; the first beyond, too.
 fn extreme(random: &mut Random, s: &Settings) -> u64 {
     let most = s.n * 10_000_000_000;
     let at = |thousandths: u64| (thousandths * thousandths * s.n * s.r * s.r).div_ceil(1_000_000);
     let beside = |random: &mut Random, sum: u64| (sum + random.below(3)).saturating_sub(1);
-    match random.below(8) {
+    match random.below(9) {
         0..=2 => {
             let row = random.pick(&[100, 400, 700, 850]);
             beside(random, at(row))
@@ -99,7 +102,8 @@ fn extreme(random: &mut Random, s: &Settings) -> u64 {
             beside(random, sum)
         }
         5 => random.below(at(10 * s.sag)),
-        6 => random.pick(&[0, 1, most, most + 1]),
+        6 => random.between(at(850) + 1, at(10 * s.sag).max(at(850) + 2) - 1),
+        7 => random.pick(&[0, 1, most, most + 1]),
         _ => random.between(0, most),
     }
 }

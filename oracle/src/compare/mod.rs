@@ -2,6 +2,7 @@
 //! compared number for number.
 mod answers;
 mod events;
+mod parts;
 mod recordings;
 mod settings;
 mod shrink;
@@ -94,9 +95,22 @@ pub fn differs(case: &Case) -> bool {
     of_the_product(case) != of_the_oracle(case)
 }
 
-/// The case of a seed with a number. Each stands by itself, so that one can be asked again alone.
+/// What a case is drawn from. Each stands by itself, so that one can be asked again alone.
+fn source(seed: u64, number: u64) -> Random {
+    Random::new(seed ^ number.wrapping_mul(0xd134_2543_de82_ef95))
+}
+
+/// Good settings of a seed with a number, and a few recordings for them, of which some may be refused.
+pub fn draw_recordings(seed: u64, number: u64) -> (Settings, Vec<Vec<i32>>) {
+    let random = &mut source(seed, number);
+    let settings = settings::good(random, number);
+    let count = random.between(1, 4);
+    (settings, (0..count).map(|_| recordings::any(random, &settings).samples).collect())
+}
+
+/// The case of a seed with a number.
 pub fn draw(seed: u64, number: u64) -> Drawn {
-    let random = &mut Random::new(seed ^ number.wrapping_mul(0xd134_2543_de82_ef95));
+    let random = &mut source(seed, number);
     match random.below(20) {
         0..=7 => draw_list(random, number),
         8..=12 => draw_add(random, number),
@@ -130,7 +144,7 @@ fn draw_room(random: &mut Random, s: &Settings, samples: &[i32]) -> usize {
         3 => needed.saturating_sub(1),
         4 => needed + 1,
         5 => needed + 40,
-        _ => random.below(2 * needed as u64 + 9) as usize,
+        _ => random.below(2 * needed as u64 + 12) as usize,
     }
 }
 

@@ -73,6 +73,7 @@ pub fn long(random: &mut Random, s: &Settings) -> Recording {
             hold = random.pick(&[1, 2, 3, 5, 40, 300, 2_000, 6 * s.f, 40 * s.f, 120 * s.f]) + random.below(3);
             let v = s.r * random.pick(&[0, 5, 10, 39, 41, 69, 84, 91, 100, 100, 100, 112, 130]) / 100;
             level = if random.once_in(3) { [v as i32, s.r as i32, s.r as i32] } else { [v as i32; 3] };
+            level.rotate_right(random.below(3) as usize);
         }
         hold -= 1;
         for _ in 0..s.n / 2 {
@@ -98,6 +99,8 @@ fn levels(random: &mut Random, s: &Settings, blocks: usize) -> Recording {
             _ => one_channel(random, s, blocks),
         };
     }
+    // Any channel may be the one that differs: what is told of one shows only where the others are not like it.
+    channels.rotate_right(random.below(3) as usize);
     let [a, b, c] = &channels;
     let samples = (0..blocks * per_block).flat_map(|i| [a.samples[i], b.samples[i], c.samples[i]]).collect();
     Recording { samples, near: a.near + b.near + c.near }

@@ -47,17 +47,37 @@ fn candidates(case: &Case) -> Box<dyn Iterator<Item = Case> + '_> {
                 })
             });
             let fresh = Case::Add { table: site::fresh(&settings).1, samples: samples.clone() };
-            Box::new(shorter.chain([fresh]).chain(tables))
+            let less_short = numbers(table[at::SHORTFALL]).map(move |less| {
+                let mut table = *table;
+                table[at::SHORTFALL] = less;
+                table[at::PARTS..].copy_from_slice(&all_on_a(less));
+                Case::Add { table, samples: samples.clone() }
+            });
+            Box::new(shorter.chain([fresh]).chain(less_short).chain(tables))
         }
         Case::Fresh { .. } => Box::new(std::iter::empty()),
-        Case::Score { settings, event } => Box::new((0..event.len()).flat_map(move |i| {
-            numbers(event[i]).map(move |word| {
+        Case::Score { settings, event } => {
+            let less_short = numbers(event[6]).map(move |less| {
                 let mut event = *event;
-                event[i] = word;
+                event[6] = less;
+                event[8..].copy_from_slice(&all_on_a(less));
                 Case::Score { settings: *settings, event }
-            })
-        })),
+            });
+            let words = (0..event.len()).flat_map(move |i| {
+                numbers(event[i]).map(move |word| {
+                    let mut event = *event;
+                    event[i] = word;
+                    Case::Score { settings: *settings, event }
+                })
+            });
+            Box::new(less_short.chain(words))
+        }
     }
+}
+
+/// A shortfall's parts. They go down with it: alone it would no longer be what they add up to.
+fn all_on_a(shortfall: u64) -> [u64; 3] {
+    [shortfall, 0, 0]
 }
 
 /// Smaller numbers than this one. One less is tried of small ones only: a large one would go down step by step.

@@ -1,4 +1,5 @@
 //! Site tables for the comparison: fresh, grown, sound to the brim, and unsound by one in each condition.
+use super::parts;
 use crate::random::Random;
 use crate::recording;
 use crate::settings::reference;
@@ -34,7 +35,15 @@ fn sound(random: &mut Random, s: &Settings, samples: &[i32]) -> Table {
     table[at::SAGS..=at::SWELLS].fill_with(|| up_to(random, total));
     let sags = table[at::SAGS];
     share(random, sags, &mut table[at::CELLS..=at::UNPLACED]);
-    table[at::SHORTFALL] = up_to(random, most_shortfall(s, total));
+    let shortfall = up_to(random, most_shortfall(s, total));
+    let made_up = parts::made_up(random, shortfall);
+    short(table, shortfall, made_up)
+}
+
+/// The table with this shortfall, and these for a, b and c.
+fn short(mut table: Table, whole: u64, parts: [u64; 3]) -> Table {
+    table[at::SHORTFALL] = whole;
+    table[at::PARTS..].copy_from_slice(&parts);
     table
 }
 
@@ -65,7 +74,7 @@ fn up_to(random: &mut Random, most: u64) -> u64 {
 }
 
 /// Shares a sum out among the counts.
-fn share(random: &mut Random, sum: u64, counts: &mut [u64]) {
+pub fn share(random: &mut Random, sum: u64, counts: &mut [u64]) {
     let mut left = sum;
     for _ in 0..random.between(1, 4) {
         let part = up_to(random, left);
@@ -78,7 +87,7 @@ fn share(random: &mut Random, sum: u64, counts: &mut [u64]) {
 /// A sound table with one condition broken, by one wherever that can be.
 fn broken(random: &mut Random, s: &Settings, samples: &[i32]) -> Table {
     let mut table = sound(random, s, samples);
-    match random.below(11) {
+    match random.below(13) {
         0 => table[random.below(7) as usize] = random.pick(&[0, 7, 513, 999, 50_001, 96, 151, u64::MAX]),
         1 => table[at::TOTAL] += 1,
         2 => table[random.between(at::HEALTHY as u64, at::UNKNOWN as u64) as usize] += 1,
@@ -91,12 +100,17 @@ fn broken(random: &mut Random, s: &Settings, samples: &[i32]) -> Table {
         }
         6 => table[at::INTERRUPTIONS] = table[at::TOTAL] + 1,
         7 => table[at::SWELLS] = table[at::TOTAL] + 1,
-        8 => table[at::SHORTFALL] = most_shortfall(s, table[at::TOTAL]) + 1,
+        8 => {
+            let above = most_shortfall(s, table[at::TOTAL]) + 1;
+            table = short(table, above, parts::made_up(random, above));
+        }
         9 => {
             let more = FULLEST + 1 - table[at::TOTAL];
             table[at::TOTAL] += more;
             table[at::HEALTHY] += more;
         }
+        10 => table = short(table, table[at::SHORTFALL], parts::one_off(random, table[at::SHORTFALL])),
+        11 => table[at::SHORTFALL] = table[at::SHORTFALL].wrapping_sub(1),
         _ => {
             let i = random.between(at::TOTAL as u64, TABLE as u64 - 1) as usize;
             table[i] = table[i].wrapping_add(random.pick(&[1, u64::MAX]));
@@ -105,8 +119,11 @@ fn broken(random: &mut Random, s: &Settings, samples: &[i32]) -> Table {
     table
 }
 
-/// Counts that add up only if a sum may wrap round.
+/// Counts that add up only if a sum may wrap round, or shortfalls that do.
 fn wrapped(random: &mut Random, s: &Settings, samples: &[i32]) -> Table {
+    if random.once_in(2) {
+        return wrapped_shortfalls(random, s, samples);
+    }
     let mut table = sound(random, s, samples);
     let counts = random.pick(&[(at::HEALTHY, at::UNKNOWN), (at::CELLS, at::UNPLACED)]);
     let large = random.pick(&[u64::MAX, 1 << 63, 1 << 32]);
@@ -115,6 +132,17 @@ fn wrapped(random: &mut Random, s: &Settings, samples: &[i32]) -> Table {
     table[one] = table[one].wrapping_add(large);
     table[other] = table[other].wrapping_sub(large);
     table
+}
+
+/// Shortfalls of a, b and c that make up the whole only if their sum wraps round. Often the whole is as large as it can be under
+/// any settings: then none of the three has to be larger. The recording is for other settings, but none is looked at.
+fn wrapped_shortfalls(random: &mut Random, s: &Settings, samples: &[i32]) -> Table {
+    let settings = random.pick(&[*s, Settings { n: 512, r: 50_000, ..*s }]);
+    let mut table = sound(random, &settings, samples);
+    if random.once_in(2) {
+        table[at::SHORTFALL] = most_shortfall(&settings, table[at::TOTAL]);
+    }
+    short(table, table[at::SHORTFALL], parts::wrapped(random, table[at::SHORTFALL]))
 }
 
 /// Zeros, all ones, or any words at all.
