@@ -1,4 +1,4 @@
-// The boundary for C and Rust. Settings are seven numbers, an event is eight and a site table 56, in the order of the rules.
+// The boundary for C and Rust. Settings are seven numbers, an event is eleven and a site table 59, in the order of the rules.
 use rules::Listed;
 use rules::Scoring;
 use words::event;
@@ -35,11 +35,26 @@ pub extern "C" fn burr_reason(
     retained: u64,
     shortfall: u64,
     class: u64,
+    a: u64,
+    b: u64,
+    c: u64,
 ) -> u64
-    ensures { λ x. ⌜ x ≡ reasonOf (settingsFrom n r f sag interruption swell hysteresis) (eventWith kind start end seen extreme retained shortfall class) ⌝ }
+    ensures { λ x. ⌜ x ≡ reasonOf (settingsFrom n r f sag interruption swell hysteresis) (eventWith kind start end seen extreme retained shortfall class a b c) ⌝ }
 {
     let s = settings(n, r, f, sag, interruption, swell, hysteresis);
-    let e = event(kind, start, end, seen, extreme, retained, shortfall, class);
+    let e = event(
+        kind,
+        start,
+        end,
+        seen,
+        extreme,
+        retained,
+        shortfall,
+        class,
+        a,
+        b,
+        c,
+    );
     score::reason(s, e)
 }
 
@@ -61,11 +76,26 @@ pub extern "C" fn burr_cell(
     retained: u64,
     shortfall: u64,
     class: u64,
+    a: u64,
+    b: u64,
+    c: u64,
 ) -> u64
-    ensures { λ x. ⌜ x ≡ cellOf (settingsFrom n r f sag interruption swell hysteresis) (eventWith kind start end seen extreme retained shortfall class) ⌝ }
+    ensures { λ x. ⌜ x ≡ cellOf (settingsFrom n r f sag interruption swell hysteresis) (eventWith kind start end seen extreme retained shortfall class a b c) ⌝ }
 {
     let s = settings(n, r, f, sag, interruption, swell, hysteresis);
-    let e = event(kind, start, end, seen, extreme, retained, shortfall, class);
+    let e = event(
+        kind,
+        start,
+        end,
+        seen,
+        extreme,
+        retained,
+        shortfall,
+        class,
+        a,
+        b,
+        c,
+    );
     score::cell(s, e)
 }
 
@@ -87,15 +117,30 @@ pub extern "C" fn burr_score(
     retained: u64,
     shortfall: u64,
     class: u64,
+    a: u64,
+    b: u64,
+    c: u64,
     severity: &mut f64,
     energy: &mut f64,
 ) -> u64
-    ensures { λ x. ⌜ x ≡ reasonNumber (scoring (settingsFrom n r f sag interruption swell hysteresis) (eventWith kind start end seen extreme retained shortfall class)) ⌝ }
-    ensures { λ x. ⌜ now (severity .exit) ≡ severityAfter (scoring (settingsFrom n r f sag interruption swell hysteresis) (eventWith kind start end seen extreme retained shortfall class)) (now (severity .entry)) ⌝ }
-    ensures { λ x. ⌜ now (energy .exit) ≡ energyAfter (scoring (settingsFrom n r f sag interruption swell hysteresis) (eventWith kind start end seen extreme retained shortfall class)) (now (energy .entry)) ⌝ }
+    ensures { λ x. ⌜ x ≡ reasonNumber (scoring (settingsFrom n r f sag interruption swell hysteresis) (eventWith kind start end seen extreme retained shortfall class a b c)) ⌝ }
+    ensures { λ x. ⌜ now (severity .exit) ≡ severityAfter (scoring (settingsFrom n r f sag interruption swell hysteresis) (eventWith kind start end seen extreme retained shortfall class a b c)) (now (severity .entry)) ⌝ }
+    ensures { λ x. ⌜ now (energy .exit) ≡ energyAfter (scoring (settingsFrom n r f sag interruption swell hysteresis) (eventWith kind start end seen extreme retained shortfall class a b c)) (now (energy .entry)) ⌝ }
 {
     let s = settings(n, r, f, sag, interruption, swell, hysteresis);
-    let e = event(kind, start, end, seen, extreme, retained, shortfall, class);
+    let e = event(
+        kind,
+        start,
+        end,
+        seen,
+        extreme,
+        retained,
+        shortfall,
+        class,
+        a,
+        b,
+        c,
+    );
     let given = score::score_of(s, e);
     match given {
         Scoring::Scored(x) => {
@@ -107,7 +152,7 @@ pub extern "C" fn burr_score(
     }
 }
 
-// The events of a recording, eight numbers each, from the front of `events`: 0 and how many there are; or the refusal's number
+// The events of a recording, eleven numbers each, from the front of `events`: 0 and how many there are; or the refusal's number
 // and its place, with nothing else written.
 #[no_mangle]
 pub extern "C" fn burr_list(
@@ -150,7 +195,7 @@ pub extern "C" fn burr_fresh(
     interruption: u64,
     swell: u64,
     hysteresis: u64,
-    table: &mut [u64; 56],
+    table: &mut [u64; 59],
     place: &mut u64,
 ) -> u64
     ensures { λ x. ⌜ x ≡ numberOfTaken (freshened (settingsFrom n r f sag interruption swell hysteresis) .answer) ⌝ }
@@ -168,7 +213,7 @@ pub extern "C" fn burr_fresh(
 
 // The table grown by a recording, and 0; or the refusal's number and its place, and the table as it was.
 #[no_mangle]
-pub extern "C" fn burr_add(table: &mut [u64; 56], samples: &[i32], place: &mut u64) -> u64
+pub extern "C" fn burr_add(table: &mut [u64; 59], samples: &[i32], place: &mut u64) -> u64
     ensures { λ x. ⌜ x ≡ numberOfTaken (added (tableFrom (now (table .entry))) (now (samples .entry)) .answer) ⌝ }
     ensures { λ x. ⌜ now (place .exit) ≡ placeOfTaken (added (tableFrom (now (table .entry))) (now (samples .entry)) .answer) ⌝ }
     ensures { λ x. ⌜ now (table .exit) ≡ tableWords (added (tableFrom (now (table .entry))) (now (samples .entry)) .table) ⌝ }

@@ -6,7 +6,7 @@ use mathlib.Core.List.{List}
 use lib.Dec.{ltb, eqb}
 use lib.IntN.{ℤ}
 use Rattle.rules.specs.Bounded.{before, bit}
-use Rattle.rules.specs.Halves.{known, halfAt, full}
+use Rattle.rules.specs.Halves.{ofChannel, channels, known, halfAt, full}
 use Rattle.rules.specs.Events.{inEvent, starts, startSeen, least, greatest, level, worse, extremeOf, retainedOf, shortsOf, three, sixSums, typeOf}
 use Rattle.rules.specs.EventList.{kindNumber, ofSag}
 use Rattle.rules.specs.declared.Settings.{Settings}
@@ -161,4 +161,5 @@ finishedBy s xs kind o end isKnown =
       retained = retainedOf s (o .extreme);
       shortfall = ofSag kind (three (o .short));
       class = ofSag kind (typeOf (sixSums s xs (o .at)));
+      parts = channels (λ c. ofSag kind (ofChannel c (o .short)));
     }

@@ -22,12 +22,12 @@ turned : (r : Refusal) (n : ℕ) → Turned r ≡ Events n → ⊥
 turned r n h = let z : _≡_ {A = ℕ} 0 1 = cc in omega arith
 
 -- over any two checks before the room's, and any number of events
-fits : (a b : Taken) (room m n : ℕ) (small : Bool) → ltb room (8 * m) ≡ small → byCheck {A = Listed} (andThen a (andThen b (cond small (Refused (Room m)) Accepted))) (Events m) (λ r. Turned r) ≡ Events n → 8 * n ≤ room
+fits : (a b : Taken) (room m n : ℕ) (small : Bool) → ltb room (11 * m) ≡ small → byCheck {A = Listed} (andThen a (andThen b (cond small (Refused (Room m)) Accepted))) (Events m) (λ r. Turned r) ≡ Events n → 11 * n ≤ room
 fits (Refused r) b room m n small e h = absurd (turned r n h)
 fits Accepted (Refused r) room m n small e h = absurd (turned r n h)
 fits Accepted Accepted room m n true e h = absurd (turned (Room m) n h)
-fits Accepted Accepted room m n false e h = let same : m ≡ n = cc in omega (arith, ltb-false room (8 * m) e)
+fits Accepted Accepted room m n false e h = let same : m ≡ n = cc in omega (arith, ltb-false room (11 * m) e)
 
-pub events-fit : (s : Settings) (xs : List ℤ) (room n : ℕ) → listed s xs room ≡ Events n → 8 * n ≤ room
+pub events-fit : (s : Settings) (xs : List ℤ) (room n : ℕ) → listed s xs room ≡ Events n → 11 * n ≤ room
 unfolding listed listCheck roomCheck
-events-fit s xs room n h = fits (settingsCheck s) (recordingCheck s xs) room (length (eventsOf s xs)) n (ltb room (8 * length (eventsOf s xs))) refl h
+events-fit s xs room n h = fits (settingsCheck s) (recordingCheck s xs) room (length (eventsOf s xs)) n (ltb room (11 * length (eventsOf s xs))) refl h

@@ -12,10 +12,10 @@ use lib.IntN.{ℤ}
 use lib.ListN.{length, getD, set, replicate, length-set, getD-replicate, List·getD-eq-default}
 use lib.Seq.{ext-getD, getD-set-same, getD-set-other}
 use Rattle.rules.specs.Bounded.{before, bit, count, sum}
-use Rattle.rules.specs.Halves.{known, halfAt, halvesOf, full}
-use Rattle.rules.specs.Events.{inEvent, starts}
+use Rattle.rules.specs.Halves.{ofChannel, channels, known, halfAt, halvesOf, full}
+use Rattle.rules.specs.Events.{inEvent, starts, three}
 use Rattle.rules.specs.EventList.{eventFrom}
-use Rattle.rules.specs.Site.{cells, cellAt, isPlaced, isUnplaced, sagCell, sagShortfalls, sagShort, cellsFrom}
+use Rattle.rules.specs.Site.{cells, cellAt, isPlaced, isUnplaced, sagCell, sagSum, sagShort, cellsFrom}
 use Rattle.rules.specs.Demands.{Good, AcceptedRecording}
 use Rattle.rules.proofs.Booleans.{cases, bit-le}
 use Rattle.rules.proofs.Bounded.{sum-same}
@@ -23,7 +23,7 @@ use Rattle.rules.proofs.Choices.{lower}
 use Rattle.rules.proofs.Longest.{in-past, half-past}
 use Rattle.rules.proofs.Borders.{sag-cell-high}
 use Rattle.rules.proofs.Ranges.{full-high}
-use Rattle.rules.proofs.Shortfall.{shortfalls-agree}
+use Rattle.rules.proofs.Shortfall.{parts-agree, total-made-up}
 use Rattle.rules.proofs.DemandThree.{cells-length, cells-at, sag-short-high}
 use Rattle.rules.specs.declared.Settings.{Settings}
 use Rattle.rules.specs.declared.Half.{Half}
@@ -31,9 +31,10 @@ use Rattle.rules.specs.declared.Half.the-variants.{Unknown}
 use Rattle.rules.specs.declared.Kind.{Kind}
 use Rattle.rules.specs.declared.Kind.the-variants.{Sag}
 use Rattle.kinds.specs.declared.Open.{Open}
-use Rattle.kinds.specs.Machine.{opens}
-use Rattle.survey.specs.Pass.{cellsBy, landed, seenBoth, shortfallFrom, landedAt, cellsAt}
-use Rattle.survey.proofs.Surveys.{bit-and, lands, landing, lands-at, seen-is, landed-starts}
+use Rattle.kinds.specs.Machine.{opens, Light}
+use Rattle.ledger.specs.Entries.{cellsBy}
+use Rattle.ledger.specs.State.{landed, seenBoth, partFrom, landedAt, cellsAt}
+use Rattle.ledger.proofs.Surveys.{bit-and, lands, landing, lands-at, seen-is, landed-starts}
 
 -- ---- cells
 
@@ -183,13 +184,26 @@ module _ (s : Settings) (xs : List ℤ) where
       landed-all s h n (half-past s xs) Sag (λ a. bit (not (seenBoth s h n a)))
       ∙ sym (count-sum (isUnplaced s h n) n ∙ sum-same _ _ n (λ a l. bit-and (starts s h Sag a) (not (seenBoth s h n a))))
 
-  shortfall-sum : sum (λ a. cond (starts s h Sag a) (shortfallFrom s h n a) 0) n ≡ sagShortfalls s xs
-  unfolding sagShortfalls eventFrom
-  shortfall-sum = refl
+  -- of channel c, what all sags lack
+  abbrev all-of : ℕ → ℕ
+  all-of c = sagSum (λ e. ofChannel c (e .parts)) s xs
 
-  pub shortfall-all : landedAt s h n (suc n) .shortfall ≡ sagShortfalls s xs
+  part-sum : (c : ℕ) → c < 3 → sum (λ a. cond (starts s h Sag a) (partFrom s h n c a) 0) n ≡ all-of c
+  unfolding sagSum eventFrom
+  part-sum zero l = refl
+  part-sum (suc zero) l = refl
+  part-sum (suc (suc zero)) l = refl
+  part-sum (suc (suc (suc c))) l = absurd (omega arith)
+
+  part-all : (c : ℕ) → c < 3 → landed s h Sag (partFrom s h n c) (suc n) ≡ all-of c
+  part-all c l = landed-all s h n (half-past s xs) Sag (partFrom s h n c) ∙ part-sum c l
+
+  pub parts-all : landedAt s h n (suc n) .parts ≡ channels all-of
   unfolding landedAt
-  shortfall-all = landed-all s h n (half-past s xs) Sag (shortfallFrom s h n) ∙ shortfall-sum
+  parts-all = rw (part-all 0 (omega arith), part-all 1 (omega arith), part-all 2 (omega arith))
+
+  pub shortfall-all : three (channels all-of) ≡ sagSum (λ e. e .shortfall) s xs
+  shortfall-all = omega (arith, total-made-up s xs)
 
   placed-all : (i : ℕ) → landed s h Sag (λ a. bit (seenBoth s h n a && eqb (sagCell s h n a) i)) (suc n) ≡ count (λ k. isPlaced s h n k && eqb (sagCell s h n k) i) n
   unfolding isPlaced
@@ -206,12 +220,21 @@ module _ (s : Settings) (xs : List ℤ) where
   unfolding cellsAt
   cells-all = cells-same _ _ placed-all (replicate cells 0) 0
 
-  pub shortfall-low : Good s → AcceptedRecording s xs → (k : ℕ) → k ≤ n → landedAt s h n k .shortfall ≤ 3000000000000000000
-  unfolding landedAt
-  shortfall-low g ok k l =
-      let a = landed-below s h n (half-past s xs) Sag (shortfallFrom s h n) k in
-      let b = sum-grows s h n (half-past s xs) (λ a. cond (starts s h Sag a) (shortfallFrom s h n a) 0) k n l in
-      let c : sagShort s xs ≤ n * (3 * full s) = sag-short-high s xs in
-      let three-high : 3 * full s ≤ 3840000000000 = omega (arith, full-high s g) in
-      let d : n * (3 * full s) ≤ 100000 * 3840000000000 = mul-le-mul (ok .few) three-high in
-      omega (arith, a, b, c, d, shortfall-sum, shortfalls-agree s xs)
+  module _ (g : Good s) (ok : AcceptedRecording s xs) where
+    all-low : (c : ℕ) → c < 3 → all-of c ≤ 1000000000000000000
+    all-low c l =
+        let d : n * full s ≤ 100000 * 1280000000000 = mul-le-mul (ok .few) (full-high s g) in
+        omega (arith, parts-agree s xs c l, sag-short-high s xs c, d)
+
+    part-low : (c : ℕ) → c < 3 → (k : ℕ) → k ≤ n → landed s h Sag (partFrom s h n c) k ≤ 1000000000000000000
+    part-low c l k u =
+        let a = landed-below s h n (half-past s xs) Sag (partFrom s h n c) k in
+        let b = sum-grows s h n (half-past s xs) (λ a. cond (starts s h Sag a) (partFrom s h n c a) 0) k n u in
+        omega (arith, a, b, part-sum c l, all-low c l)
+
+    pub parts-light : (k : ℕ) → k ≤ n → Light (landedAt s h n k .parts)
+    unfolding landedAt
+    parts-light k l = (part-low 0 (omega arith) k l, part-low 1 (omega arith) k l, part-low 2 (omega arith) k l)
+
+    pub last-light : Light (landedAt s h n (suc n) .parts)
+    last-light = rw parts-all (all-low 0 (omega arith), all-low 1 (omega arith), all-low 2 (omega arith))

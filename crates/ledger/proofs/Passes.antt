@@ -10,7 +10,7 @@ use lib.ListN.{replicate}
 use Rattle.rules.specs.Bounded.{before}
 use Rattle.rules.specs.Recorder.{settingsGood}
 use Rattle.rules.specs.Halves.{known, halfAt, halvesOf}
-use Rattle.rules.specs.Events.{inEvent, starts}
+use Rattle.rules.specs.Events.{inEvent, starts, three}
 use Rattle.rules.specs.Site.{cells, inAny, isHealthy, isDisturbed, isUnknown, empty, grown}
 use Rattle.rules.specs.Refusals.{recordingCheck}
 use Rattle.rules.specs.Demands.{Good, AcceptedRecording}
@@ -26,17 +26,18 @@ use Rattle.rules.specs.declared.Taken.the-variants.{Accepted}
 use Rattle.kinds.specs.declared.Thresholds.{Thresholds}
 use Rattle.kinds.specs.declared.Level.{Level}
 use Rattle.kinds.specs.declared.Open.{Open}
-use Rattle.survey.specs.declared.Track.{Track}
-use Rattle.survey.specs.declared.Classes.{Classes}
-use Rattle.survey.specs.declared.Starts.{Starts}
-use Rattle.survey.specs.declared.Landed.{Landed}
-use Rattle.survey.specs.declared.Survey.{Survey}
+use Rattle.ledger.specs.declared.Track.{Track}
+use Rattle.ledger.specs.declared.Classes.{Classes}
+use Rattle.ledger.specs.declared.Starts.{Starts}
+use Rattle.ledger.specs.declared.Landed.{Landed}
+use Rattle.ledger.specs.declared.Survey.{Survey}
 use Rattle.kinds.specs.Machine.{thresholdsOf, levelFrom, levelOf, opens, Going, Light}
-use Rattle.survey.specs.Pass.{trackedBy, goingOn, classedBy, startedBy, landedBy, cellsBy, Landable, surveyedBy, cellsTurned, Turnable, trackAt, classesAt, startsAt, landed, landedAt, cellsAt, surveyAt, startSurvey}
+use Rattle.ledger.specs.Entries.{trackedBy, goingOn, classedBy, startedBy, landedBy, cellsBy, Landable, surveyedBy, cellsTurned, Turnable, startSurvey}
+use Rattle.ledger.specs.State.{trackAt, classesAt, startsAt, landed, landedAt, cellsAt, surveyAt}
 use Rattle.kinds.proofs.Machine.{level-is, level-known, inside-is}
 use Rattle.kinds.proofs.Limits.{marked, few-half, opens-light, level-light, extreme-low}
-use Rattle.survey.proofs.Surveys.{track-next, classes-next, starts-next, lands, landing, landed-at-next}
-use Rattle.survey.proofs.Gains.{cells-next, unplaced-few, cells-few, shortfall-low, unplaced-all, shortfall-all, cells-all}
+use Rattle.ledger.proofs.Surveys.{track-next, classes-next, starts-next, lands, landing, landed-at-next}
+use Rattle.ledger.proofs.Gains.{cells-next, unplaced-few, cells-few, parts-light, last-light, unplaced-all, parts-all, shortfall-all, cells-all}
 
 module _ (s : Settings) (xs : List ℤ) (good-settings : settingsGood s ≡ true) (accepted : recordingCheck s xs ≡ Accepted) where
   abbrev h : ℕ → Half
@@ -90,7 +91,7 @@ module _ (s : Settings) (xs : List ℤ) (good-settings : settingsGood s ≡ true
             };
         light = follow-ready k l .0;
         unplaced-few = omega (arith, ok .few, unplaced-few s h n (half-past s xs) k);
-        shortfall-low = shortfall-low s xs g ok k l;
+        parts-light = parts-light s xs g ok k l;
       }
 
   -- the state after half-cycle k
@@ -152,11 +153,12 @@ module _ (s : Settings) (xs : List ℤ) (good-settings : settingsGood s ≡ true
         sags = b .sags;
         interruptions = b .interruptions;
         swells = b .swells;
-        shortfall = d .shortfall;
+        shortfall = three (d .parts);
+        parts = d .parts;
       }) (grown (empty s) xs)
   unfolding grown classesAt startsAt
   table-is c b d cs m e f i j q =
-      rw (e, f, i, j, q, unplaced-all s xs, shortfall-all s xs, cells-all s xs) (simp zero-add)
+      rw (e, f, i, j, q, unplaced-all s xs, parts-all s xs, shortfall-all s xs, cells-all s xs) (simp zero-add)
 
 -- ---- a turn
 
@@ -254,6 +256,13 @@ module _ (s : Settings) (xs : List ℤ) (good-settings : settingsGood s ≡ true
           → o ≡ trackAt s (halfAt s xs) (halvesOf s xs) .sag → Landable s (p .landed) ends o halves cs
       go ends o e f = rw (e, f, are-last .landed, count-is, last-cells) (landable s xs good-settings accepted (halvesOf s xs) (omega arith))
 
+  landed-last : (d : Landed) → d ≡ landedBy (p .landed) (p .track .sag .inside) (p .track .sag) false → d ≡ landedAt s (halfAt s xs) (halvesOf s xs) (suc (halvesOf s xs))
+  landed-last d e = e ∙ rw (ends-last, not-known, are-last .landed, are-last .track) (landed-after s xs good-settings accepted (halvesOf s xs) (omega arith))
+
+  -- what the channels lack can be added up
+  pub light-last : (d : Landed) → d ≡ landedBy (p .landed) (p .track .sag .inside) (p .track .sag) false → Light (d .parts)
+  light-last d e = rw (landed-last d e) (last-light s xs (good s good-settings) (accepted-recording s xs accepted))
+
   pub table-made : (d : Landed) (cs′ : List ℕ) → d ≡ landedBy (p .landed) (p .track .sag .inside) (p .track .sag) false
       → cs′ ≡ cellsBy s (p .track .sag .inside) (p .track .sag) halves false cs
       → _≡_ {A = Table} (record {
@@ -267,9 +276,9 @@ module _ (s : Settings) (xs : List ℤ) (good-settings : settingsGood s ≡ true
         sags = p .starts .sags;
         interruptions = p .starts .interruptions;
         swells = p .starts .swells;
-        shortfall = d .shortfall;
+        shortfall = three (d .parts);
+        parts = d .parts;
       }) (grown (empty s) xs)
   table-made d cs′ e f =
-      table-is s xs good-settings accepted (p .classes) (p .starts) d cs′ halves count-is (are-last .classes) (are-last .starts-are)
-      (e ∙ rw (ends-last, not-known, are-last .landed, are-last .track) (landed-after s xs good-settings accepted (halvesOf s xs) (omega arith)))
+      table-is s xs good-settings accepted (p .classes) (p .starts) d cs′ halves count-is (are-last .classes) (are-last .starts-are) (landed-last d e)
       (f ∙ rw (ends-last, count-is, not-known, are-last .track, last-cells) (cells-after s xs good-settings accepted (halvesOf s xs) (omega arith)))

@@ -7,20 +7,22 @@ use mathlib.Core.Logic.{⊎-elim}
 use native.Mathlib.Omega.{arith}
 use borrow.Author.Tests.{not-true}
 use Rattle.rules.specs.Bounded.{before, bit, sum}
-use Rattle.rules.specs.Halves.{known}
-use Rattle.rules.specs.Events.{inEvent, starts, endOf, three}
+use Rattle.rules.specs.Halves.{ofChannel, channels, known}
+use Rattle.rules.specs.Events.{inEvent, starts, endOf}
 use Rattle.rules.specs.Site.{inAny, isHealthy, isDisturbed, isUnknown}
 use Rattle.rules.proofs.Booleans.{cases, both}
 use Rattle.rules.specs.declared.Settings.{Settings}
+use Rattle.rules.specs.declared.Sums.{Sums}
 use Rattle.rules.specs.declared.Half.{Half}
 use Rattle.rules.specs.declared.Half.the-variants.{Unknown}
 use Rattle.rules.specs.declared.Kind.{Kind}
 use Rattle.rules.specs.declared.Kind.the-variants.{Sag, Interruption, Swell}
 use Rattle.kinds.specs.declared.Open.{Open}
-use Rattle.survey.specs.declared.Track.{Track}
-use Rattle.survey.specs.declared.Landed.{Landed}
+use Rattle.ledger.specs.declared.Track.{Track}
+use Rattle.ledger.specs.declared.Landed.{Landed}
 use Rattle.kinds.specs.Machine.{thresholdsOf, levelOf, opens, Going}
-use Rattle.survey.specs.Pass.{trackedBy, classedBy, startedBy, landedBy, landed, trackAt, classesAt, startsAt, seenBoth, shortfallFrom, landedAt}
+use Rattle.ledger.specs.Entries.{trackedBy, classedBy, startedBy, landedBy}
+use Rattle.ledger.specs.State.{landed, trackAt, classesAt, startsAt, seenBoth, partFrom, landedAt}
 use Rattle.kinds.proofs.Machine.{goes-here, level-known, inside-is, opens-lasts, opens-launches}
 use Rattle.kinds.proofs.Going.{open-is-going, ends-here}
 
@@ -36,9 +38,11 @@ where-true : (b : Bool) (x y : ℕ) → (b ≡ true → x ≡ y) → cond b x 0 
 where-true true x y f = f refl
 where-true false x y f = refl
 
-same-landed : {a b e f : ℕ} → a ≡ b → e ≡ f
-    → _≡_ {A = Landed} (record { unplaced = a; shortfall = e }) (record { unplaced = b; shortfall = f })
+same-landed : {a b : ℕ} {e f : Sums} → a ≡ b → e ≡ f → _≡_ {A = Landed} (record { unplaced = a; parts = e }) (record { unplaced = b; parts = f })
 same-landed x y = rw (x, y)
+
+same-channels : (f g : ℕ → ℕ) → ((c : ℕ) → f c ≡ g c) → channels f ≡ channels g
+same-channels f g e = rw (e 0, e 1, e 2)
 
 module _ (s : Settings) (h : ℕ → Half) where
   -- ---- what goes on
@@ -116,8 +120,8 @@ module _ (s : Settings) (h : ℕ → Half) where
     pub seen-is : (k : ℕ) → k ≤ n → lands Sag k ≡ true → (opens s h Sag k .seen && known (h k)) ≡ seenBoth s h n (opens s h Sag k .start)
     seen-is k high y = rw (landing Sag k high y .seen, lands-at Sag k high y)
 
-    short-is : (k : ℕ) → k ≤ n → lands Sag k ≡ true → three (opens s h Sag k .short) ≡ shortfallFrom s h n (opens s h Sag k .start)
-    short-is k high y = rw (landing Sag k high y .short, lands-at Sag k high y)
+    short-is : (c k : ℕ) → k ≤ n → lands Sag k ≡ true → ofChannel c (opens s h Sag k .short) ≡ partFrom s h n c (opens s h Sag k .start)
+    short-is c k high y = rw (landing Sag k high y .short, lands-at Sag k high y)
 
     pub landed-at-next : (k : ℕ) → k ≤ n → landedBy (landedAt s h n k) (lands Sag k) (opens s h Sag k) (known (h k)) ≡ landedAt s h n (suc k)
     unfolding landedAt landed
@@ -127,4 +131,5 @@ module _ (s : Settings) (h : ℕ → Half) where
         (ap (λ (x : ℕ). landed s h Sag (λ a. bit (not (seenBoth s h n a))) k + x)
         (bit-and (lands Sag k) (not (o .seen && known (h k)))
         ∙ where-true (lands Sag k) _ _ (λ y. ap (λ (b : Bool). bit (not b)) (seen-is k high y))))
-        (ap (λ (x : ℕ). landed s h Sag (shortfallFrom s h n) k + x) (where-true (lands Sag k) _ _ (λ y. short-is k high y)))
+        (same-channels (λ c. landed s h Sag (partFrom s h n c) k + cond (lands Sag k) (ofChannel c (o .short)) 0) (λ c. landed s h Sag (partFrom s h n c) (suc k))
+        (λ c. ap (λ (x : ℕ). landed s h Sag (partFrom s h n c) k + x) (where-true (lands Sag k) _ _ (λ y. short-is c k high y))))

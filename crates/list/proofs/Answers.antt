@@ -94,33 +94,33 @@ module _ (s : Settings) (xs : List ℤ) where
   -- ---- an accepted recording
 
   module _ (good : settingsGood s ≡ true) (ok : recordingCheck s xs ≡ Accepted) (n : ℕ) (all : n ≡ length (eventsOf s xs)) where
-    check-room : (room : ℕ) → listCheck s xs room ≡ cond (ltb room (8 * n)) (Refused (Room n)) Accepted
+    check-room : (room : ℕ) → listCheck s xs room ≡ cond (ltb room (11 * n)) (Refused (Room n)) Accepted
     unfolding listCheck roomCheck
     check-room room = rw (settings-good s good, ok, all)
 
-    pub room-enough : (room : ℕ) → n ≤ room / 8 → length (flat (eventsOf s xs)) ≤ room
+    pub room-enough : (room : ℕ) → n ≤ room / 11 → length (flat (eventsOf s xs)) ≤ room
     room-enough room l = omega (arith, flat-length (eventsOf s xs))
 
-    module _ (room : ℕ) (short : room / 8 < n) where
+    module _ (room : ℕ) (short : room / 11 < n) where
       check-no : listCheck s xs room ≡ Refused (Room n)
-      check-no = check-room room ∙ rw (lt-ltb room (8 * n) (omega arith))
+      check-no = check-room room ∙ rw (lt-ltb room (11 * n) (omega arith))
 
       pub list-no : Turned (Room n) ≡ listed s xs room
       unfolding listed
       list-no = rw check-no
 
-    pub run-no : (out : List ℕ) → length out / 8 < n → out ≡ written s xs out
+    pub run-no : (out : List ℕ) → length out / 11 < n → out ≡ written s xs out
     unfolding written
     run-no out l = rw (check-no (length out) l)
 
-    module _ (room : ℕ) (enough : n ≤ room / 8) where
+    module _ (room : ℕ) (enough : n ≤ room / 11) where
       check-yes : listCheck s xs room ≡ Accepted
-      check-yes = check-room room ∙ rw (le-ltb room (8 * n) (omega arith))
+      check-yes = check-room room ∙ rw (le-ltb room (11 * n) (omega arith))
 
       pub list-yes : Events n ≡ listed s xs room
       unfolding listed
       list-yes = rw (check-yes, all)
 
-    pub run-yes : (out : List ℕ) → n ≤ length out / 8 → over (flat (eventsOf s xs)) out ≡ written s xs out
+    pub run-yes : (out : List ℕ) → n ≤ length out / 11 → over (flat (eventsOf s xs)) out ≡ written s xs out
     unfolding written
     run-yes out l = rw (check-yes (length out) l)

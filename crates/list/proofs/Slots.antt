@@ -33,21 +33,21 @@ sets-comm (u ∷ us) vs l i j a =
 
 -- the run as it will be once slot a has its words, where it waits for them
 abbrev pub fill : Bool → ℕ → List ℕ → List ℕ → List ℕ
-fill waits a w o = cond waits (sets o (8 * a) w) o
+fill waits a w o = cond waits (sets o (11 * a) w) o
 
 -- two slots that are not the same lie apart
-slots-apart : (u v : List ℕ) (a b : ℕ) → length u ≡ 8 → length v ≡ 8 → (a ≡ b → ⊥) → Apart (8 * a) u (8 * b) v
+slots-apart : (u v : List ℕ) (a b : ℕ) → length u ≡ 11 → length v ≡ 11 → (a ≡ b → ⊥) → Apart (11 * a) u (11 * b) v
 slots-apart u v a b l m n =
     ⊎-elim (λ x. inl (omega (arith, l))) (λ x. ⊎-elim (λ y. inr (omega (arith, m))) (λ y. absurd (n (omega arith))) (lower b a)) (lower a b)
 
 -- a store in another slot
-pub fill-sets : (b : Bool) (a : ℕ) (w o : List ℕ) (a′ : ℕ) (v : List ℕ) → length w ≡ 8 → length v ≡ 8 → (b ≡ true → a ≡ a′ → ⊥)
-    → fill b a w (sets o (8 * a′) v) ≡ sets (fill b a w o) (8 * a′) v
-fill-sets true a w o a′ v l m n = sets-comm v w o (8 * a′) (8 * a) (slots-apart v w a′ a m l (λ e. n refl (sym e)))
+pub fill-sets : (b : Bool) (a : ℕ) (w o : List ℕ) (a′ : ℕ) (v : List ℕ) → length w ≡ 11 → length v ≡ 11 → (b ≡ true → a ≡ a′ → ⊥)
+    → fill b a w (sets o (11 * a′) v) ≡ sets (fill b a w o) (11 * a′) v
+fill-sets true a w o a′ v l m n = sets-comm v w o (11 * a′) (11 * a) (slots-apart v w a′ a m l (λ e. n refl (sym e)))
 fill-sets false a w o a′ v l m n = refl
 
 -- two slots that wait
-pub fill-fill : (b : Bool) (a : ℕ) (w o : List ℕ) (b′ : Bool) (a′ : ℕ) (v : List ℕ) → length w ≡ 8 → length v ≡ 8
+pub fill-fill : (b : Bool) (a : ℕ) (w o : List ℕ) (b′ : Bool) (a′ : ℕ) (v : List ℕ) → length w ≡ 11 → length v ≡ 11
     → (b ≡ true → b′ ≡ true → a ≡ a′ → ⊥) → fill b a w (fill b′ a′ v o) ≡ fill b′ a′ v (fill b a w o)
 fill-fill b a w o true a′ v l m n = fill-sets b a w o a′ v l m (λ e. n e refl)
 fill-fill b a w o false a′ v l m n = refl

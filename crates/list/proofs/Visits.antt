@@ -84,7 +84,7 @@ module _ {s : Settings} {xs : List ℤ} {kind : Kind} {m : Marks} {seen : Bool} 
       ended = rw (is-next, not-in, add-zero)
 
       pub ended-out : (out : List ℕ) (e : Event) → e ≡ finishedBy s xs kind (p .event) k (l .known)
-          → sets out (8 * p .slot) (wordsOf e) ≡ closes s xs kind k p out
+          → sets out (11 * p .slot) (wordsOf e) ≡ closes s xs kind k p out
       unfolding closes
       ended-out out e f = rw (event-is e f, was-inside, not-in)
 

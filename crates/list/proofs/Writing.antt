@@ -121,8 +121,8 @@ module _ (s : Settings) (xs : List ℤ) where
         (λ w y. not-both (next .event .inside) i (rests y .1))
 
     -- A turn of one kind. F fills the other two kinds' slots, and a store in this kind's slot passes through it.
-    module _ (F : List ℕ → List ℕ) (E o₀ out : List ℕ) (size : length E ≡ 8 * n) (room : 8 * (n + bit (starts s h kind k)) ≤ length o₀)
-        (through : p .event .inside ≡ true → F (sets out (8 * p .slot) (words kind p)) ≡ sets (F out) (8 * p .slot) (words kind p))
+    module _ (F : List ℕ → List ℕ) (E o₀ out : List ℕ) (size : length E ≡ 11 * n) (room : 11 * (n + bit (starts s h kind k)) ≤ length o₀)
+        (through : p .event .inside ≡ true → F (sets out (11 * p .slot) (words kind p)) ≡ sets (F out) (11 * p .slot) (words kind p))
         (whole : filled kind p (F out) ≡ over E o₀) where
       abbrev Goal : Type 0
       Goal = filled kind next (F (closes s xs kind k p out)) ≡ over (E ++ flat (eventAt s xs kind k)) o₀
@@ -143,8 +143,8 @@ module _ (s : Settings) (xs : List ℤ) where
       case-begins w y =
           let f = begins w y in
           let e : F out ≡ over E o₀ = rw w at whole in
-          let fits : 8 * n + 8 ≤ length o₀ = omega (arith, ap bit (f .0)) in
-          rw (w, f .1, f .2, slot-new (f .0), one-starts (f .0), e) (put-next E o₀ (wordsOf (eventFrom s xs kind k)) (8 * n) size fits)
+          let fits : 11 * n + 11 ≤ length o₀ = omega (arith, ap bit (f .0)) in
+          rw (w, f .1, f .2, slot-new (f .0), one-starts (f .0), e) (put-next E o₀ (wordsOf (eventFrom s xs kind k)) (11 * n) size fits)
 
       case-rests : p .event .inside ≡ false → inEvent s h kind k ≡ false → Goal
       unfolding closes visited eventAt
@@ -157,12 +157,12 @@ module _ (s : Settings) (xs : List ℤ) where
 
   module _ (k n : ℕ) (kA : Kind) (pA : Pending) (kB : Kind) (pB : Pending) (kind : Kind) (p : Pending)
       (is : p .event ≡ opens s h kind k) (A-differs : Different pA p) (B-differs : Different pB p)
-      (E o₀ out : List ℕ) (size : length E ≡ 8 * n) (room : 8 * (n + bit (starts s h kind k)) ≤ length o₀)
+      (E o₀ out : List ℕ) (size : length E ≡ 11 * n) (room : 11 * (n + bit (starts s h kind k)) ≤ length o₀)
       (whole : filled kA pA (filled kB pB (filled kind p out)) ≡ over E o₀) where
     abbrev others : List ℕ → List ℕ
     others o = filled kA pA (filled kB pB o)
 
-    through : p .event .inside ≡ true → others (sets out (8 * p .slot) (words kind p)) ≡ sets (others out) (8 * p .slot) (words kind p)
+    through : p .event .inside ≡ true → others (sets out (11 * p .slot) (words kind p)) ≡ sets (others out) (11 * p .slot) (words kind p)
     through w =
         ap (filled kA pA) (fill-sets (pB .event .inside) (pB .slot) (words kB pB) out (p .slot) (words kind p) refl refl (λ i. B-differs i w))
         ∙ fill-sets (pA .event .inside) (pA .slot) (words kA pA) (filled kB pB out) (p .slot) (words kind p) refl refl (λ i. A-differs i w)
@@ -188,7 +188,7 @@ module _ (s : Settings) (xs : List ℤ) where
     pub known-before : p .known ≡ before (λ j. known (h j)) k
     pub few : p .n ≤ 3 * k
     pub same : length out ≡ length o₀
-    pub size : length (wordsBelow k) ≡ 8 * p .n
+    pub size : length (wordsBelow k) ≡ 11 * p .n
     pub sag : p .sag .event ≡ opens s h Sag k
     pub interruption : p .interruption .event ≡ opens s h Interruption k
     pub swell : p .swell .event ≡ opens s h Swell k
@@ -207,8 +207,8 @@ module _ (s : Settings) (xs : List ℤ) where
   unfolding closes
   length-closes kind k p out = either (p .event .inside && not (inEvent s h kind k))
     where
-      either : (b : Bool) → length (cond b (sets out (8 * p .slot) (words kind p)) out) ≡ length out
-      either true = length-sets out (8 * p .slot) (words kind p)
+      either : (b : Bool) → length (cond b (sets out (11 * p .slot) (words kind p)) out) ≡ length out
+      either true = length-sets out (11 * p .slot) (words kind p)
       either false = refl
 
   out-length : (k : ℕ) (p : Pass) (out : List ℕ) → length (turnedOut s xs k p out) ≡ length out
@@ -223,11 +223,11 @@ module _ (s : Settings) (xs : List ℤ) where
   outs-length k zero p out = refl
   outs-length k (suc d) p out = out-length (k + d) (turns s xs k d p) (turnsOut s xs k d p out) ∙ outs-length k d p out
 
-  pub length-at : (kind : Kind) (k : ℕ) → length (flat (eventAt s xs kind k)) ≡ 8 * bit (starts s h kind k)
+  pub length-at : (kind : Kind) (k : ℕ) → length (flat (eventAt s xs kind k)) ≡ 11 * bit (starts s h kind k)
   unfolding eventAt
   length-at kind k = either (starts s h kind k)
     where
-      either : (b : Bool) → length (flat (cond b (eventFrom s xs kind k ∷ []) [])) ≡ 8 * bit b
+      either : (b : Bool) → length (flat (cond b (eventFrom s xs kind k ∷ []) [])) ≡ 11 * bit b
       either true = refl
       either false = refl
 
@@ -281,13 +281,13 @@ module _ (s : Settings) (xs : List ℤ) where
     abbrev E₂ : List ℕ
     E₂ = E₁ ++ flat (eventAt s xs Interruption k)
 
-    size₁ : length E₁ ≡ 8 * n₁
+    size₁ : length E₁ ≡ 11 * n₁
     size₁ = omega (arith, length-append (wordsBelow k) (flat (eventAt s xs Sag k)), length-at Sag k, w .size)
 
-    size₂ : length E₂ ≡ 8 * n₂
+    size₂ : length E₂ ≡ 11 * n₂
     size₂ = omega (arith, length-append E₁ (flat (eventAt s xs Interruption k)), length-at Interruption k, size₁)
 
-    size₃ : length (wordsBelow (suc k)) ≡ 8 * n₃
+    size₃ : length (wordsBelow (suc k)) ≡ 11 * n₃
     size₃ =
         ap length (below-next k)
         ∙ omega (arith, length-append E₂ (flat (eventAt s xs Swell k)), length-at Swell k, size₂)

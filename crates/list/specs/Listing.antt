@@ -33,7 +33,7 @@ use Rattle.list.specs.declared.Pass.{Pass}
 -- the machine of a kind stands before half-cycle k, and a slot that waits lies within the room
 pub record Ready (s : Settings) (xs : List ℤ) (kind : Kind) (k : ℕ) (p : Pending) (room : ℕ) : Type 0 where
   pub state : p .event ≡ opens s (halfAt s xs) kind k
-  pub slot : p .event .inside ≡ true → 8 * p .slot + 8 ≤ room
+  pub slot : p .event .inside ≡ true → 11 * p .slot + 11 ≤ room
 
 -- what a visit asks
 pub record Visiting (s : Settings) (xs : List ℤ) (kind : Kind) (m : Marks) (seen : Bool) (k : ℕ) (p : Pending) (l : Level) (n room : ℕ) : Type 0 where
@@ -61,7 +61,7 @@ visited s xs kind k p n =
 unfoldable pub closes : Settings → List ℤ → Kind → ℕ → Pending → List ℕ → List ℕ
 closes s xs kind k p out =
     let w = wordsOf (eventFrom s xs kind (p .event .start)) in
-    cond (p .event .inside && not (inEvent s (halfAt s xs) kind k)) (sets out (8 * p .slot) w) out
+    cond (p .event .inside && not (inEvent s (halfAt s xs) kind k)) (sets out (11 * p .slot) w) out
 
 pub record ReadyAll (s : Settings) (xs : List ℤ) (k : ℕ) (p : Pass) (room : ℕ) : Type 0 where
   pub known-before : p .known ≡ before (λ j. known (halfAt s xs j)) k

@@ -3,23 +3,23 @@ ghost use mathlib.Core.Path.{_≡_};
 ghost use mathlib.Core.Bool.{true, false};
 ghost use Prim.Native.Nat.{_+_, _-_, _≤_, _<_};
 ghost use lib.ListN.{length, getD};
-ghost use lib.Seq.{sets};
 ghost use Rattle.rules.specs.Bounded.{firstNot};
 ghost use Rattle.rules.specs.Recorder.{settingsGood};
-ghost use Rattle.rules.specs.Halves.{known, halfAt, halvesOf};
-ghost use Rattle.rules.specs.Events.{three, sixSums, typeOf};
-ghost use Rattle.rules.specs.EventList.{kindNumber, ofSag, wordsOf, eventsOf, flat};
+ghost use Rattle.rules.specs.Halves.{halfAt, halvesOf};
+ghost use Rattle.rules.specs.EventList.{eventsOf, flat};
 ghost use Rattle.rules.specs.Refusals.{settingsCheck, recordingCheck, andThen, listed, written};
 ghost use Rattle.rules.specs.declared.Taken.the-variants.{Accepted};
 ghost use Rattle.checks.specs.Flags.{shapeCheck};
 ghost use Rattle.halves.specs.Steps.{stepAt};
-ghost use Rattle.kinds.specs.Machine.{thresholdsOf, Light, Finishable, seenNumber, finishedBy};
+ghost use Rattle.kinds.specs.Machine.{thresholdsOf};
 ghost use Rattle.counts.specs.Counting.{Noted};
 ghost use Rattle.list.specs.Listing.{Visiting, visited, closes, Turning, Readable, Running, differs, WritingOn, WrittenTo, startPass, rested, turned, turnedOut, turns, turnsOut, over};
 use checks::check_settings;
 use checks::check_shape;
 use checks::count_halves;
 use counts::count_events;
+use ended::finish;
+use ended::put;
 use halves::joined;
 use halves::step_at;
 use kinds::Level;
@@ -30,18 +30,13 @@ use kinds::level_at;
 use kinds::none;
 use kinds::step;
 use kinds::thresholds_of;
-use numbers::copy;
 use numbers::min;
-use rules::Event;
 use rules::Half;
 use rules::Kind;
 use rules::Listed;
 use rules::Refusal;
 use rules::Settings;
-use rules::Sums;
 use rules::Taken;
-use sag_type::type_at;
-use score::retained;
 
 // An event of a kind that is going on, and the slot that waits for its words.
 pub struct Pending {
@@ -76,93 +71,6 @@ pub struct Written {
     pub group: u64,
 }
 
-// 1 sag, 2 interruption, 3 swell.
-fn number_of(kind: Kind) -> u64
-    ensures { λ r. ⌜ r ≡ kindNumber kind ⌝ }
-{
-    match kind {
-        Kind::Sag => 1,
-        Kind::Interruption => 2,
-        Kind::Swell => 3,
-    }
-}
-
-// 1 for the start plus 2 for the end.
-fn seen_number(start: bool, end: bool) -> u64
-    ensures { λ r. ⌜ r ≡ seenNumber start end ⌝ }
-{
-    if start {
-        if end {
-            return 3;
-        }
-        return 1;
-    }
-    if end {
-        return 2;
-    }
-    0
-}
-
-// A sag's shortfall, of all channels; 0 for the other kinds.
-fn shortfall_of(kind: Kind, v: Sums) -> u64
-    requires { ⌜ Light v ⌝ }
-    ensures { λ r. ⌜ r ≡ ofSag kind (three v) ⌝ }
-{
-    match kind {
-        Kind::Sag => v.a + v.b + v.c,
-        Kind::Interruption => 0,
-        Kind::Swell => 0,
-    }
-}
-
-// A sag's type, by half-cycle `at`; 0 for the other kinds.
-fn class_of(s: Settings, samples: &[i32], kind: Kind, at: u64) -> u64
-    requires { ⌜ (settingsGood s ≡ true) × (recordingCheck s (now samples) ≡ Accepted) × (known (halfAt s (now samples) at) ≡ true) ⌝ }
-    ensures { λ r. ⌜ r ≡ ofSag kind (typeOf (sixSums s (now (samples .entry)) at)) ⌝ }
-{
-    match kind {
-        Kind::Sag => type_at(s, samples, at),
-        Kind::Interruption => 0,
-        Kind::Swell => 0,
-    }
-}
-
-// The event that half-cycle `end` ends; `known` tells of that half-cycle.
-fn finish(s: Settings, samples: &[i32], kind: Kind, o: Open, end: u64, known: bool) -> Event
-    requires { ⌜ (settingsGood s ≡ true) × (recordingCheck s (now samples) ≡ Accepted) × Finishable s (now samples) o ⌝ }
-    ensures { λ r. ⌜ r ≡ finishedBy s (now (samples .entry)) kind o end known ⌝ }
-{
-    let short = o.short;
-    Event {
-        kind: number_of(kind),
-        start: o.start,
-        end,
-        seen: seen_number(o.seen, known),
-        extreme: o.extreme,
-        retained: retained(s, o.extreme),
-        shortfall: shortfall_of(kind, short),
-        class: class_of(s, samples, kind, o.at),
-    }
-}
-
-// An event's words, from `at` on.
-fn put(out: &mut [u64], at: usize, e: Event)
-    requires { ⌜ at + 8 ≤ length (now out) ⌝ }
-    ensures { λ x. ⌜ now (out .exit) ≡ sets (now (out .entry)) at (wordsOf e) ⌝ }
-{
-    let words = [
-        e.kind,
-        e.start,
-        e.end,
-        e.seen,
-        e.extreme,
-        e.retained,
-        e.shortfall,
-        e.class,
-    ];
-    copy(&words, out, at);
-}
-
 // Half-cycle k by one kind, with `n` slots given out: the words of an event that it ends go into its slot, and an event that
 // starts there gets the next one.
 fn visit(
@@ -186,7 +94,7 @@ fn visit(
     let is = step(kind, m, seen, k, was, l);
     if was.inside & !is.inside {
         let e = finish(s, samples, kind, was, k, l.known);
-        put(out, (8 * slot) as usize, e);
+        put(out, (11 * slot) as usize, e);
         return Visited {
             pending: Pending { event: is, slot },
             n,
@@ -422,7 +330,7 @@ fn list_shaped(s: Settings, samples: &[i32], out: &mut [u64]) -> Listed
     let Listed::Events(total) = counted else {
         return counted;
     };
-    let room = (out.len() / 8) as u64;
+    let room = (out.len() / 11) as u64;
     if room < total {
         return Listed::Turned(Refusal::Room(total));
     }
@@ -430,7 +338,7 @@ fn list_shaped(s: Settings, samples: &[i32], out: &mut [u64]) -> Listed
     Listed::Events(total)
 }
 
-// Lists the events of any recording into `out`, eight numbers each, in order of start and then kind: how many there are, or the
+// Lists the events of any recording into `out`, eleven numbers each, in order of start and then kind: how many there are, or the
 // refusal. Numbers beyond the last event stay as they were, and a refusal writes nothing.
 pub fn list(s: Settings, samples: &[i32], out: &mut [u64]) -> Listed
     ensures { λ r. ⌜ r ≡ listed s (now (samples .entry)) (length (now (out .entry))) ⌝ }

@@ -1,10 +1,13 @@
-// Plain numbers and runs of them: the lesser and the greater of two, a division for any divisor, one run copied into another, and
-// two added place by place.
+// Plain numbers and runs of them: the lesser and the greater of two, a division for any divisor, three numbers that make up a whole,
+// one run copied into another, two runs added place by place, and two sums channel by channel.
 ghost use mathlib.Core.Path.{_≡_};
 ghost use Prim.Native.Nat.{ℕ, _+_, _/_, _%_, _^_, _≤_, _<_, min, max};
+ghost use lib.Dec.{eqb};
 ghost use lib.ListN.{length, getD};
 ghost use lib.Seq.{paste};
+ghost use Rattle.rules.specs.Halves.{ofChannel, channels};
 ghost use Rattle.rules.specs.Events.{plus};
+use rules::Sums;
 
 // The lesser of two.
 pub fn min(x: u64, y: u64) -> u64
@@ -40,6 +43,20 @@ pub fn remainder(x: u64, d: u64) -> u64
     x % d
 }
 
+// Whether three numbers make up the whole. They are taken off it one after the other: a sum of any three could wrap and look right.
+pub fn adds_up(whole: u64, a: u64, b: u64, c: u64) -> bool
+    ensures { λ r. ⌜ r ≡ eqb (a + b + c) whole ⌝ }
+{
+    if whole < a {
+        return false;
+    }
+    let rest = whole - a;
+    if rest < b {
+        return false;
+    }
+    rest - b == c
+}
+
 // The numbers of `from` in their place in `out`, from `at` on.
 pub fn copy(from: &[u64], out: &mut [u64], at: usize)
     requires { ⌜ at + length (now from) ≤ length (now out) ⌝ }
@@ -61,5 +78,17 @@ pub fn add_each(sum: &mut [u64], more: &[u64])
     while k < more.len() {
         sum[k] = sum[k] + more[k];
         k += 1;
+    }
+}
+
+// Two sums added, channel by channel.
+pub fn add_sums(x: Sums, y: Sums) -> Sums
+    requires { ⌜ (x .a + y .a < 2 ^ 64) × (x .b + y .b < 2 ^ 64) × (x .c + y .c < 2 ^ 64) ⌝ }
+    ensures { λ r. ⌜ r ≡ channels (λ c. ofChannel c x + ofChannel c y) ⌝ }
+{
+    Sums {
+        a: x.a + y.a,
+        b: x.b + y.b,
+        c: x.c + y.c,
     }
 }

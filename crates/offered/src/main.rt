@@ -43,6 +43,7 @@ fn write_cells(cells: [u64; 40]) {
 
 fn write_table(name: &[u8], t: Table) {
     let cells = t.cells;
+    let parts = t.parts;
     print::text(name);
     print::number(t.total);
     print::number(t.healthy);
@@ -57,6 +58,10 @@ fn write_table(name: &[u8], t: Table) {
     print::number(t.swells);
     print::text(b" shortfall");
     print::number(t.shortfall);
+    print::text(b" by channel");
+    print::number(parts.a);
+    print::number(parts.b);
+    print::number(parts.c);
     print::text(b"\n");
 }
 
@@ -71,6 +76,12 @@ fn offer_blocks(name: &[u8], t: Table, values: [i32; 8], n: usize) -> Table
 fn offer_k9(name: &[u8], t: Table) -> Table {
     let run = k9();
     offer(name, t, &run, 96)
+}
+
+// K12: 1000 1000 500 500 1000 1000 on channel a only.
+fn offer_k12(name: &[u8], t: Table) -> Table {
+    let run = blocks([1000, 1000, 500, 500, 1000, 1000, 0, 0], [1000; 8]);
+    offer(name, t, &run, 72)
 }
 
 // The table that is offered 1000 1000 v v 1000 1000.
@@ -89,7 +100,8 @@ fn write_site() {
     let t5 = offer_dip(b"site, K6:", t4, 0);
     let t6 = offer_dip(b"site, K10:", t5, 1200);
     let t7 = offer_dip(b"site, K2 again:", t6, 500);
-    write_table(b"site:", t7);
+    let t8 = offer_k12(b"site, K12:", t7);
+    write_table(b"site:", t8);
 }
 
 // Settings that are refused give a table of zeros, and that takes nothing.

@@ -7,10 +7,10 @@ use native.Mathlib.Nat.{eq-or-lt-of-le, mul-le-mul, mul-le-mul-right}
 use native.Mathlib.Omega.{arith}
 use borrow.Author.Tests.{ltb-true, leb-true, leb-false, lt-ltb, le-leb, lt-leb, not-true}
 use Rattle.rules.specs.Bounded.{before}
-use Rattle.rules.specs.Halves.{full, below, above, atLeast, atMost, someChannel, allChannels}
+use Rattle.rules.specs.Halves.{ofChannel, full, below, above, atLeast, atMost, someChannel, allChannels}
 use Rattle.rules.specs.Events.{beginsBy, endsBy, inEvent}
 use Rattle.rules.specs.Demands.{goesOn}
-use Rattle.rules.specs.Meanings.{ofChannel, Some, Every, percent, Begins, Ends, Keeps, Inside}
+use Rattle.rules.specs.Meanings.{Some, Every, percent, Begins, Ends, Keeps, Inside}
 use Rattle.rules.specs.declared.Settings.{Settings}
 use Rattle.rules.specs.declared.Sums.{Sums}
 use Rattle.rules.specs.declared.Half.{Half}

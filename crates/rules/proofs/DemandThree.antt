@@ -5,7 +5,7 @@ use Prim.Native.Nat.{ℕ, zero, suc, _+_, _-_, _*_, _≤_, _<_}
 use mathlib.Core.Path.{_≡_, refl, sym, ap, subst, _∙_}
 use mathlib.Core.Bool.{Bool, true, false, not, _&&_, _||_, cond}
 use mathlib.Core.List.{List, [], _∷_}
-use native.Mathlib.Nat.{mul-add, mul-comm}
+use native.Mathlib.Nat.{mul-add, mul-assoc, mul-comm}
 use native.Mathlib.Omega.{arith}
 use borrow.Author.Tests.{ltb-false, le-ltb, eqb-true, eq-eqb, not-false}
 use lib.Dec.{ltb, eqb}
@@ -14,10 +14,10 @@ use lib.ListN.{length, getD, getD-replicate}
 use lib.Seq.{ext-getD}
 use Rattle.rules.specs.Bounded.{count, sum}
 use Rattle.rules.specs.Recorder.{badSetting, settingsGood}
-use Rattle.rules.specs.Halves.{halfAt, halvesOf, full}
-use Rattle.rules.specs.Events.{inEvent, starts, endOf, startSeen, endSeen, seenOf, shorts, three}
+use Rattle.rules.specs.Halves.{ofChannel, squares, halfAt, halvesOf, full, below}
+use Rattle.rules.specs.Events.{inEvent, starts, endOf, startSeen, endSeen, seenOf, shortOf, three, makeUp}
 use Rattle.rules.specs.EventList.{eventFrom}
-use Rattle.rules.specs.Site.{cellOf, isHealthy, isDisturbed, isUnknown, isPlaced, isUnplaced, sagCell, sagShort, cellsFrom, grown, cells, empty, total, mostHalves, isUnsound}
+use Rattle.rules.specs.Site.{cellOf, isHealthy, isDisturbed, isUnknown, isPlaced, isUnplaced, sagCell, sagSum, sagShort, sagShorts, cellsFrom, grown, cells, empty, total, mostHalves, isUnsound}
 use Rattle.rules.specs.Refusals.{recordingCheck, settingsCheck, byCheck, andThen, freshened, soundCheck, fullCheck, addCheck, added}
 use Rattle.rules.specs.Demands.{Scorable, offer, taken, admits, admitted, sumOver, placedIn, Sound, SumsUp}
 use Rattle.rules.specs.declared.Settings.{Settings}
@@ -32,10 +32,10 @@ use Rattle.rules.proofs.Borders.{cells-make-up}
 use Rattle.rules.proofs.Bounded.{count-le, sum-same}
 use Rattle.rules.proofs.Choices.{of-cond}
 use Rattle.rules.proofs.Classes.{three-classes, placed-or-not}
-use Rattle.rules.proofs.DemandTwo.{shorts-high, event-passes, reason-of, seen-both}
+use Rattle.rules.proofs.DemandTwo.{short-high, event-passes, reason-of, seen-both}
 use Rattle.rules.proofs.Ranges.{good}
 use Rattle.rules.proofs.Samples.{accepted-recording, sum-le, goes-on, both-accept}
-use Rattle.rules.proofs.Shortfall.{shortfalls-agree}
+use Rattle.rules.proofs.Shortfall.{of-channels, parts-agree, total-made-up, shortfalls-agree}
 
 -- a refused recording changes nothing
 pub refused-same : (t : Table) (xs : List ℤ) (r : Refusal) → addCheck t xs ≡ Refused r → added t xs .table ≡ t
@@ -97,17 +97,18 @@ cells-sum g (c ∷ cs) i =
 
 -- ---- sound tables
 
-none-of : (a b c d e f g h : Bool) → a || b || c || d || (e || f || g) || h ≡ false
-    → (a ≡ false) × (b ≡ false) × (c ≡ false) × (d ≡ false) × (e ≡ false) × (f ≡ false) × (g ≡ false) × (h ≡ false)
-none-of a b c d e f g h q =
-    let y = neither (a || b || c || d || (e || f || g)) h q in
+none-of : (a b c d e f g h i : Bool) → a || b || c || d || (e || f || g) || h || i ≡ false
+    → (a ≡ false) × (b ≡ false) × (c ≡ false) × (d ≡ false) × (e ≡ false) × (f ≡ false) × (g ≡ false) × (h ≡ false) × (i ≡ false)
+none-of a b c d e f g h i q =
+    let x = neither (a || b || c || d || (e || f || g) || h) i q in
+    let y = neither (a || b || c || d || (e || f || g)) h (x .0) in
     let z = neither (a || b || c || d) (e || f || g) (y .0) in
     let u = neither (a || b || c) d (z .0) in
     let v = neither (a || b) c (u .0) in
     let w = neither a b (v .0) in
     let k = neither (e || f) g (z .1) in
     let l = neither e f (k .0) in
-    (w .0, w .1, v .1, u .1, l .0, l .1, k .1, y .1)
+    (w .0, w .1, v .1, u .1, l .0, l .1, k .1, y .1, x .1)
 
 pub sound-parts : (t : Table) → isUnsound t ≡ false → Sound t
 unfolding isUnsound
@@ -115,7 +116,7 @@ sound-parts t h =
     let p =
     none-of (not (settingsGood (t .settings))) (ltb mostHalves (t .total)) (not (eqb (t .healthy + t .disturbed + t .unknown) (t .total)))
     (not (eqb (total (t .cells) + t .unplaced) (t .sags))) (ltb (t .total) (t .sags)) (ltb (t .total) (t .interruptions)) (ltb (t .total) (t .swells))
-    (ltb (3 * full (t .settings) * t .total) (t .shortfall)) h in
+    (ltb (3 * full (t .settings) * t .total) (t .shortfall)) (not (makeUp (t .parts) (t .shortfall))) h in
     record {
       good-settings = not-false (settingsGood (t .settings)) (p .0);
       total-high = ltb-false mostHalves (t .total) (p .1);
@@ -125,6 +126,7 @@ sound-parts t h =
       interruptions-high = ltb-false (t .total) (t .interruptions) (p .5);
       swells-high = ltb-false (t .total) (t .swells) (p .6);
       shortfall-high = ltb-false (3 * full (t .settings) * t .total) (t .shortfall) (p .7);
+      parts = eqb-true (three (t .parts)) (t .shortfall) (not-false (makeUp (t .parts) (t .shortfall)) (p .8));
     }
 
 pub sound-made : (t : Table) → Sound t → isUnsound t ≡ false
@@ -139,6 +141,7 @@ sound-made t r =
       le-ltb (t .total) (t .interruptions) (r .interruptions-high),
       le-ltb (t .total) (t .swells) (r .swells-high),
       le-ltb (3 * full (t .settings) * t .total) (t .shortfall) (r .shortfall-high),
+      eq-eqb (three (t .parts)) (t .shortfall) (r .parts),
     )
 
 -- ---- an accepted recording keeps a table sound
@@ -160,12 +163,15 @@ accepted-adding t xs h =
       fits = ltb-false mostHalves (t .total + halvesOf (t .settings) xs) (goes-on (ltb mostHalves (t .total + halvesOf (t .settings) xs)) (Full (mostHalves - t .total)) Accepted (q .1) .0);
     }
 
--- each half-cycle adds at most 3 x N x R x R
-pub sag-short-high : (s : Settings) (xs : List ℤ) → sagShort s xs ≤ halvesOf s xs * (3 * full s)
+-- each half-cycle adds at most N x R x R to a channel
+pub sag-short-high : (s : Settings) (xs : List ℤ) (c : ℕ) → sagShort s xs c ≤ halvesOf s xs * full s
 unfolding sagShort
-sag-short-high s xs =
-    sum-le (λ k. cond (inEvent s (halfAt s xs) Sag k) (three (shorts s (halfAt s xs k))) 0) (3 * full s) (halvesOf s xs)
-    (λ k l. of-cond (λ x. x ≤ 3 * full s) (inEvent s (halfAt s xs) Sag k) (three (shorts s (halfAt s xs k))) 0 (λ e. shorts-high s (halfAt s xs k)) (λ e. omega arith))
+sag-short-high s xs c =
+    sum-le (λ k. cond (inEvent s (halfAt s xs) Sag k) (short k) 0) (full s) (halvesOf s xs)
+    (λ k l. of-cond (λ x. x ≤ full s) (inEvent s (halfAt s xs) Sag k) (short k) 0 (λ e. short-high (below s (s .sag) (squares s xs k c)) (full s) (squares s xs k c)) (λ e. omega arith))
+  where
+    short : ℕ → ℕ
+    short k = shortOf s (squares s xs k c)
 
 -- the cell of a placed sag is that of its event in the list
 pub placed-cell : (s : Settings) (xs : List ℤ) → settingsGood s ≡ true → recordingCheck s xs ≡ Accepted
@@ -211,7 +217,8 @@ grown-sound t xs forty ok =
       sags-high = omega (arith, r .sags-high, count-le (starts s h Sag) n);
       interruptions-high = omega (arith, r .interruptions-high, count-le (starts s h Interruption) n);
       swells-high = omega (arith, r .swells-high, count-le (starts s h Swell) n);
-      shortfall-high = omega (arith, r .shortfall-high, shortfalls-agree s xs, sag-short-high s xs, mul-add (3 * full s) (t .total) n, mul-comm n (3 * full s));
+      shortfall-high = omega (arith, r .shortfall-high, shortfalls-agree s xs, sag-short-high s xs 0, sag-short-high s xs 1, sag-short-high s xs 2, mul-add (3 * full s) (t .total) n, mul-comm n (full s), mul-assoc 3 (full s) n);
+      parts = omega (arith, r .parts, total-made-up s xs);
     }
 
 -- ---- a fresh table
@@ -232,6 +239,7 @@ empty-sound s g =
       interruptions-high = omega arith;
       swells-high = omega arith;
       shortfall-high = omega arith;
+      parts = refl;
     }
 
 -- a refused making hands back zeros, and these are unsound
@@ -336,13 +344,19 @@ module _ (s : Settings) (g : settingsGood s ≡ true) (rs : List (List ℤ)) whe
         sags = counted (λ t. t .sags) (λ xs. count (starts s (halfAt s xs) Sag) (halvesOf s xs)) (λ t xs r. rw (r .settings)) refl;
         interruptions = counted (λ t. t .interruptions) (λ xs. count (starts s (halfAt s xs) Interruption) (halvesOf s xs)) (λ t xs r. rw (r .settings)) refl;
         swells = counted (λ t. t .swells) (λ xs. count (starts s (halfAt s xs) Swell) (halvesOf s xs)) (λ t xs r. rw (r .settings)) refl;
-        shortfall = counted (λ t. t .shortfall) (sagShort s) (λ t xs r. rw (r .settings) (ap (λ x. t .shortfall + x) (shortfalls-agree s xs))) refl;
+        shortfall = counted (λ t. t .shortfall) (sagShorts s) (λ t xs r. rw (r .settings) (ap (λ x. t .shortfall + x) (shortfalls-agree s xs))) refl;
+        parts = λ c l. counted (λ t. ofChannel c (t .parts)) (λ xs. sagShort s xs c) (λ t xs r. part-adds c l t xs r) (of-channels (λ c. 0) c l);
       }
     where
       cell-adds : (i : ℕ) → i < cells → (t : Table) (xs : List ℤ) → Grown s t → getD (grown t xs .cells) i 0 ≡ getD (t .cells) i 0 + placedIn s xs i
       cell-adds i l t xs r =
           let q : 0 + i ≡ i = omega arith in
           cells-at (placedIn (t .settings) xs) (t .cells) 0 i (omega (arith, r .forty)) ∙ rw (q, r .settings)
+
+      part-adds : (c : ℕ) → c < 3 → (t : Table) (xs : List ℤ) → Grown s t → ofChannel c (grown t xs .parts) ≡ ofChannel c (t .parts) + sagShort s xs c
+      part-adds c l t xs r =
+          of-channels (λ c. ofChannel c (t .parts) + sagSum (λ e. ofChannel c (e .parts)) (t .settings) xs) c l
+          ∙ rw (r .settings) (ap (λ x. ofChannel c (t .parts) + x) (parts-agree s xs c l))
 
   -- THE LAW: a fresh table offered any recordings in any sequence holds what those that it took add up to
   pub fresh-sums-up : SumsUp s (offer (freshened s .table) rs) (taken (freshened s .table) rs)
@@ -355,11 +369,16 @@ module _ (s : Settings) (g : settingsGood s ≡ true) (rs : List (List ℤ)) whe
   pub places-make-up : let t = offer (freshened s .table) rs in total (t .cells) + t .unplaced ≡ t .sags
   places-make-up = sound-parts (offer (freshened s .table) rs) (stays-sound s g rs) .places
 
+  -- and the shortfalls of the channels the whole
+  pub channels-make-up : let t = offer (freshened s .table) rs in t .parts .a + t .parts .b + t .parts .c ≡ t .shortfall
+  channels-make-up = sound-parts (offer (freshened s .table) rs) (stays-sound s g rs) .parts
+
 -- two tables that hold this are one
 pub only-one-sums-up : (s : Settings) (t u : Table) (ok : List (List ℤ)) → SumsUp s t ok → SumsUp s u ok → t ≡ u
 only-one-sums-up s t u ok x y =
     let cs : t .cells ≡ u .cells =
     ext-getD 0 (t .cells) (u .cells) (x .forty ∙ sym (y .forty)) (λ i l. let k : i < cells = omega (arith, x .forty) in x .placed i k ∙ sym (y .placed i k)) in
+    let part : (c : ℕ) → c < 3 → ofChannel c (t .parts) ≡ ofChannel c (u .parts) = λ c l. x .parts c l ∙ sym (y .parts c l) in
     λ i.
     record {
       settings = (x .settings ∙ sym (y .settings)) i;
@@ -373,4 +392,5 @@ only-one-sums-up s t u ok x y =
       interruptions = (x .interruptions ∙ sym (y .interruptions)) i;
       swells = (x .swells ∙ sym (y .swells)) i;
       shortfall = (x .shortfall ∙ sym (y .shortfall)) i;
+      parts = record { a = part 0 (omega arith) i; b = part 1 (omega arith) i; c = part 2 (omega arith) i };
     }

@@ -37,7 +37,7 @@ use Rattle.rules.proofs.Ranges.{good}
 use Rattle.rules.proofs.Runs.{in-next}
 use Rattle.rules.proofs.Samples.{accepted-recording, sums-low, length-six, type-high}
 use Rattle.rules.proofs.Scorable.{event-bounds, unseen-is, scorable}
-use Rattle.rules.proofs.Shortfall.{three-channels}
+use Rattle.rules.proofs.Shortfall.{three-channels, event-made-up}
 
 -- ---- the list holds the longest unbroken runs of each kind
 
@@ -209,7 +209,13 @@ module _ (s : Settings) (xs : List ℤ) (g : Good s) (ok : AcceptedRecording s x
 
   pub event-passes : (kind : Kind) (a : ℕ) → starts s (halfAt s xs) kind a ≡ true → isEvent s (eventFrom s xs kind a) ≡ true
   unfolding isEvent
-  event-passes kind a e = rw (bounds-pass kind a e, eq-eqb (eventFrom s xs kind a .retained) (retainedOf s (eventFrom s xs kind a .extreme)) (retained-so kind a), by-kind kind a e)
+  event-passes kind a e =
+      rw (
+        bounds-pass kind a e,
+        eq-eqb (eventFrom s xs kind a .retained) (retainedOf s (eventFrom s xs kind a .extreme)) (retained-so kind a),
+        eq-eqb (three (eventFrom s xs kind a .parts)) (eventFrom s xs kind a .shortfall) (event-made-up s xs kind a),
+        by-kind kind a e,
+      )
 
 -- ---- what has a score
 

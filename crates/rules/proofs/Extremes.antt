@@ -13,10 +13,10 @@ use lib.IntN.{ℤ, pos, negsuc, _*ℤ_}
 use lib.ListN.{getD}
 use Rattle.rules.specs.Bounded.{any, sum, firstNot}
 use Rattle.rules.specs.Recorder.{missing}
-use Rattle.rules.specs.Halves.{halfAt, halvesOf, anyMissing, sumsAt, squares, square, known}
+use Rattle.rules.specs.Halves.{ofChannel, channels, halfAt, halvesOf, anyMissing, sumsAt, squares, square, known}
 use Rattle.rules.specs.Events.{starts, endOf, levelBy, level, worse, worst, extremeOf, earliest, sixSums, typeOf}
 use Rattle.rules.specs.EventList.{eventFrom}
-use Rattle.rules.specs.Meanings.{ofChannel, Some, Every, AsBad, IsExtreme, IsEarliest}
+use Rattle.rules.specs.Meanings.{Some, Every, AsBad, IsExtreme, IsEarliest}
 use Rattle.rules.specs.declared.Settings.{Settings}
 use Rattle.rules.specs.declared.Sums.{Sums}
 use Rattle.rules.specs.declared.Half.{Half}
@@ -292,10 +292,10 @@ sag-type-is s xs a e =
     let n = end s xs Sag a e in
     (earliest (halfAt s xs) Sag a n, is-earliest (halfAt s xs) (sumsAt s xs) Sag a n (not-empty s xs Sag a e) (event-known s xs Sag a e), refl)
 
--- shortfall and type are 0 for the other kinds
+-- shortfall, type and the shortfall of each channel are 0 for the other kinds
 pub only-a-sag-has-a-type : (s : Settings) (xs : List ℤ) (kind : Kind) (a : ℕ) → (kind ≡ Sag → ⊥)
-    → (eventFrom s xs kind a .shortfall ≡ 0) × (eventFrom s xs kind a .class ≡ 0)
+    → (eventFrom s xs kind a .shortfall ≡ 0) × (eventFrom s xs kind a .class ≡ 0) × (eventFrom s xs kind a .parts ≡ channels (λ c. 0))
 unfolding eventFrom
 only-a-sag-has-a-type s xs Sag a f = absurd (f refl)
-only-a-sag-has-a-type s xs Interruption a f = (refl, refl)
-only-a-sag-has-a-type s xs Swell a f = (refl, refl)
+only-a-sag-has-a-type s xs Interruption a f = (refl, refl, refl)
+only-a-sag-has-a-type s xs Swell a f = (refl, refl, refl)

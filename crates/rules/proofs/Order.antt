@@ -232,7 +232,7 @@ no-event-twice s xs d i j l u q =
 
 -- ---- their numbers
 
-pub flat-length : (es : List Event) → length (flat es) ≡ 8 * length es
+pub flat-length : (es : List Event) → length (flat es) ≡ 11 * length es
 flat-length [] = refl
 flat-length (e ∷ es) = omega (arith, flat-length es)
 

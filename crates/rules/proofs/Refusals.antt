@@ -336,9 +336,9 @@ settings-by s b e = rw e
 
 -- what the list answers: by the settings, by the recording, by the room
 by-room : (s : Settings) (xs : List ℤ) (room : ℕ) → settingsGood s ≡ true → recordingCheck s xs ≡ Accepted
-    → listed s xs room ≡ cond (ltb room (8 * length (eventsOf s xs))) (Turned (Room (length (eventsOf s xs)))) (Events (length (eventsOf s xs)))
+    → listed s xs room ≡ cond (ltb room (11 * length (eventsOf s xs))) (Turned (Room (length (eventsOf s xs)))) (Events (length (eventsOf s xs)))
 unfolding listed listCheck roomCheck
-by-room s xs room g c = rw (settings-by s true g, c) (go (ltb room (8 * length (eventsOf s xs))) (length (eventsOf s xs)))
+by-room s xs room g c = rw (settings-by s true g, c) (go (ltb room (11 * length (eventsOf s xs))) (length (eventsOf s xs)))
   where
     go : (b : Bool) (n : ℕ) → byCheck (cond b (Refused (Room n)) Accepted) (Events n) (λ r. Turned r) ≡ cond b (Turned (Room n)) (Events n)
     go true n = refl
@@ -355,15 +355,15 @@ by-settings s xs room g = rw (settings-by s false g)
 
 -- THE LAW: the list gives each answer exactly if the table says so
 module _ (s : Settings) (xs : List ℤ) (room : ℕ) where
-  with-room : settingsGood s ≡ true → recordingCheck s xs ≡ Accepted → (room < 8 * length (eventsOf s xs)) ⊎ (8 * length (eventsOf s xs) ≤ room)
+  with-room : settingsGood s ≡ true → recordingCheck s xs ≡ Accepted → (room < 11 * length (eventsOf s xs)) ⊎ (11 * length (eventsOf s xs) ≤ room)
       → Answered s xs room (listed s xs room)
   with-room g c (inl l) =
-      rw (by-room s xs room g c, lt-ltb room (8 * length (eventsOf s xs)) l) (inr (inr (g, recording-check-is s g xs Accepted .0 c, refl, l)))
+      rw (by-room s xs room g c, lt-ltb room (11 * length (eventsOf s xs)) l) (inr (inr (g, recording-check-is s g xs Accepted .0 c, refl, l)))
   with-room g c (inr l) =
-      rw (by-room s xs room g c, le-ltb room (8 * length (eventsOf s xs)) l) (g, recording-check-is s g xs Accepted .0 c, refl, l)
+      rw (by-room s xs room g c, le-ltb room (11 * length (eventsOf s xs)) l) (g, recording-check-is s g xs Accepted .0 c, refl, l)
 
   with-recording : settingsGood s ≡ true → (t : Taken) → recordingCheck s xs ≡ t → Answered s xs room (listed s xs room)
-  with-recording g Accepted c = with-room g c (lower room (8 * length (eventsOf s xs)))
+  with-recording g Accepted c = with-room g c (lower room (11 * length (eventsOf s xs)))
   with-recording g (Refused r) c = rw (by-recording s xs room r g c) (inr (inl (g, recording-check-is s g xs (Refused r) .0 c)))
 
   with-settings : (b : Bool) → settingsGood s ≡ b → Answered s xs room (listed s xs room)
@@ -374,12 +374,12 @@ module _ (s : Settings) (xs : List ℤ) (room : ℕ) where
   lists (Events n) w =
       let c = recording-check-is s (w .0) xs Accepted .1 (w .1) in
       let n-is = w .2 in
-      rw (by-room s xs room (w .0) c, le-ltb room (8 * length (eventsOf s xs)) (omega (arith, w .3, n-is)), n-is)
+      rw (by-room s xs room (w .0) c, le-ltb room (11 * length (eventsOf s xs)) (omega (arith, w .3, n-is)), n-is)
   lists (Turned r) (inl w) = rw (by-settings s xs room (w .0), w .1)
   lists (Turned r) (inr (inl w)) = by-recording s xs room r (w .0) (recording-check-is s (w .0) xs (Refused r) .1 (w .1))
   lists (Turned r) (inr (inr w)) =
       let c = recording-check-is s (w .0) xs Accepted .1 (w .1) in
-      rw (by-room s xs room (w .0) c, lt-ltb room (8 * length (eventsOf s xs)) (w .3), w .2)
+      rw (by-room s xs room (w .0) c, lt-ltb room (11 * length (eventsOf s xs)) (w .3), w .2)
 
   pub listed-is : (a : Listed) → (listed s xs room ≡ a) ↔ Answered s xs room a
   listed-is a = (λ e. rw e at (with-settings (settingsGood s) refl), lists a)
@@ -414,16 +414,16 @@ module _ (w out : List ℕ) (fits : length w ≤ length out) where
       ∙ getD-drop (length w) out (i - length w) d ∙ ap (λ (x : ℕ). getD out x d) (sym q)
 
 -- the eight numbers of event i, in the events' own run
-words-at : (es : List Event) (d : Event) (i : ℕ) → i < length es → take 8 (drop (8 * i) (flat es)) ≡ wordsOf (getD es i d)
+words-at : (es : List Event) (d : Event) (i : ℕ) → i < length es → take 11 (drop (11 * i) (flat es)) ≡ wordsOf (getD es i d)
 words-at [] d i l = absurd (omega arith)
 words-at (e ∷ es) d zero l = refl
 words-at (e ∷ es) d (suc i) l =
-    let q : 8 * suc i ≡ suc (suc (suc (suc (suc (suc (suc (suc (8 * i)))))))) = omega arith in
+    let q : 11 * suc i ≡ suc (suc (suc (suc (suc (suc (suc (suc (suc (suc (suc (11 * i))))))))))) = omega arith in
     rw q (words-at es d i (omega arith))
 
 module _ (s : Settings) (xs : List ℤ) (out : List ℕ) (n : ℕ) (ok : listed s xs (length out) ≡ Events n) where
-  words-length : length (flat (eventsOf s xs)) ≡ 8 * n
-  words-length = flat-length (eventsOf s xs) ∙ ap (λ (x : ℕ). 8 * x) (sym (listed-is s xs (length out) (Events n) .0 ok .2))
+  words-length : length (flat (eventsOf s xs)) ≡ 11 * n
+  words-length = flat-length (eventsOf s xs) ∙ ap (λ (x : ℕ). 11 * x) (sym (listed-is s xs (length out) (Events n) .0 ok .2))
 
   words-fit : length (flat (eventsOf s xs)) ≤ length out
   words-fit = omega (arith, words-length, listed-is s xs (length out) (Events n) .0 ok .3)
@@ -438,26 +438,26 @@ module _ (s : Settings) (xs : List ℤ) (out : List ℕ) (n : ℕ) (ok : listed 
   pub written-length : length (written s xs out) ≡ length out
   written-length = ap length written-is ∙ over-length (flat (eventsOf s xs)) out words-fit
 
-  -- its first 8 n numbers are the events', eight each, one event after another
-  pub written-words : take (8 * n) (written s xs out) ≡ flat (eventsOf s xs)
+  -- its first 11 n numbers are the events', eleven each, one event after another
+  pub written-words : take (11 * n) (written s xs out) ≡ flat (eventsOf s xs)
   written-words =
-      ap (take (8 * n)) written-is ∙ take-at (flat (eventsOf s xs)) (drop (length (flat (eventsOf s xs))) out) (8 * n) words-length
+      ap (take (11 * n)) written-is ∙ take-at (flat (eventsOf s xs)) (drop (length (flat (eventsOf s xs))) out) (11 * n) words-length
 
-  -- of event i: kind, start, end, seen, extreme, retained, shortfall, type
+  -- of event i: kind, start, end, seen, extreme, retained, shortfall, type, and the shortfalls of a, b and c
   pub written-event : (d : Event) (i : ℕ) → i < n
-      → take 8 (drop (8 * i) (written s xs out))
-      ≡ (let e = getD (eventsOf s xs) i d in e .kind ∷ e .start ∷ e .end ∷ e .seen ∷ e .extreme ∷ e .retained ∷ e .shortfall ∷ e .class ∷ [])
+      → take 11 (drop (11 * i) (written s xs out))
+      ≡ (let e = getD (eventsOf s xs) i d in e .kind ∷ e .start ∷ e .end ∷ e .seen ∷ e .extreme ∷ e .retained ∷ e .shortfall ∷ e .class ∷ e .parts .a ∷ e .parts .b ∷ e .parts .c ∷ [])
   written-event d i l =
       let w = flat (eventsOf s xs) in
       let rest = drop (length w) out in
       let long = words-length in
-      let left = length-drop (8 * i) w in
-      ap (λ v. take 8 (drop (8 * i) v)) written-is
-      ∙ ap (take 8) (drop-append-le (8 * i) w rest (omega arith))
-      ∙ take-append-le 8 (drop (8 * i) w) rest (omega arith)
+      let left = length-drop (11 * i) w in
+      ap (λ v. take 11 (drop (11 * i) v)) written-is
+      ∙ ap (take 11) (drop-append-le (11 * i) w rest (omega arith))
+      ∙ take-append-le 11 (drop (11 * i) w) rest (omega arith)
       ∙ words-at (eventsOf s xs) d i (omega (arith, listed-is s xs (length out) (Events n) .0 ok .2))
 
   -- and the numbers beyond the last event stay unchanged
-  pub written-rest : (i d : ℕ) → 8 * n ≤ i → getD (written s xs out) i d ≡ getD out i d
+  pub written-rest : (i d : ℕ) → 11 * n ≤ i → getD (written s xs out) i d ≡ getD out i d
   written-rest i d l =
       ap (λ v. getD v i d) written-is ∙ over-rest (flat (eventsOf s xs)) out words-fit i d (omega (arith, words-length))

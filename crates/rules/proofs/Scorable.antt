@@ -1,5 +1,5 @@
 -- What the tests of an event say of its numbers, and what an event has that has no reason against it. Assumes nothing.
-use Prim.Native.Nat.{ℕ, zero, suc, _-_, _*_, _≤_, _<_}
+use Prim.Native.Nat.{ℕ, zero, suc, _+_, _-_, _*_, _≤_, _<_}
 use mathlib.Core.Path.{_≡_, refl}
 use mathlib.Core.Bool.{Bool, true, false, not, _&&_, cond}
 use native.Mathlib.Omega.{arith}
@@ -9,7 +9,7 @@ use Rattle.rules.specs.declared.Settings.{Settings}
 use Rattle.rules.specs.declared.Event.{Event}
 use Rattle.rules.specs.Recorder.{within, settingsGood}
 use Rattle.rules.specs.Halves.{full, below}
-use Rattle.rules.specs.Events.{retainedOf}
+use Rattle.rules.specs.Events.{retainedOf, three, makeUp}
 use Rattle.rules.specs.Scores.{inBounds, isSag, sagGood, otherGood, isEvent, unseenOf, reasonOf}
 use Rattle.rules.specs.Demands.{Scorable}
 use Rattle.rules.proofs.Booleans.{both}
@@ -42,19 +42,31 @@ in-bounds s e h =
       extreme = leb-true (e .extreme) (s .n * 10000000000) (h3 .1);
     }
 
--- the three parts of the test: ranges, the retained value, and what the kind adds
-parts : (s : Settings) (e : Event) → isEvent s e ≡ true
-    → (inBounds s e ≡ true) × (e .retained ≡ retainedOf s (e .extreme)) × (cond (isSag e) (sagGood s e) (otherGood e) ≡ true)
+-- the four tests: ranges, the retained value, the shortfalls of the channels, and what the kind adds
+tests : (s : Settings) (e : Event) → isEvent s e ≡ true
+    → (inBounds s e ≡ true) × (e .retained ≡ retainedOf s (e .extreme)) × (three (e .parts) ≡ e .shortfall)
+    × (cond (isSag e) (sagGood s e) (otherGood e) ≡ true)
 unfolding isEvent
-parts s e h =
+tests s e h =
     let kept = eqb (e .retained) (retainedOf s (e .extreme)) in
+    let made-up = makeUp (e .parts) (e .shortfall) in
     let by-kind = cond (isSag e) (sagGood s e) (otherGood e) in
-    let h0 = both (inBounds s e) (kept && by-kind) h in
-    let h1 = both kept by-kind (h0 .1) in
-    (h0 .0, eqb-true (e .retained) (retainedOf s (e .extreme)) (h1 .0), h1 .1)
+    let h0 = both (inBounds s e) (kept && made-up && by-kind) h in
+    let h1 = both (kept && made-up) by-kind (h0 .1) in
+    let h2 = both kept made-up (h1 .0) in (
+      h0 .0,
+      eqb-true (e .retained) (retainedOf s (e .extreme)) (h2 .0),
+      eqb-true (three (e .parts)) (e .shortfall) (h2 .1),
+      h1 .1,
+    )
 
 pub event-bounds : (s : Settings) (e : Event) → isEvent s e ≡ true → InBounds s e
-event-bounds s e h = in-bounds s e (parts s e h .0)
+event-bounds s e h = in-bounds s e (tests s e h .0)
+
+-- THE LAW: of what passes for an event, of whatever kind, the shortfalls of the channels make up the shortfall, with no number that
+-- is too large
+pub event-parts : (s : Settings) (e : Event) → isEvent s e ≡ true → e .parts .a + e .parts .b + e .parts .c ≡ e .shortfall
+event-parts s e h = tests s e h .2
 
 -- the reason of a sag is what is unseen of it, as `seen` counts it: 1 for the start plus 2 for the end
 pub unseen-is : (seen : ℕ) → seen ≤ 3 → unseenOf seen ≡ 3 - seen
@@ -97,6 +109,6 @@ sag-low s e h =
 pub sag-retained : (s : Settings) (e : Event) → Scorable s e → e .retained ≤ 950
 sag-retained s e c =
     let g = good s (c .settings) in
-    let p = parts s e (c .event) in
-    let low = sag-low s e (rw (c .sag) at (p .2)) in
+    let p = tests s e (c .event) in
+    let low = sag-low s e (rw (c .sag) at (p .3)) in
     omega (arith, p .1, retained-below s (s .sag) (e .extreme) (omega (arith, full-least s g)) low, g .sag-high)

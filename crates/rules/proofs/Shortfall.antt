@@ -1,4 +1,4 @@
--- The shortfalls of all sags add up to the sum over every half-cycle in a sag. Over any test: what the runs that start below m hold is
+-- Of each channel, the shortfalls of all sags add up to the sum over every half-cycle in a sag. Over any test: what the runs that start below m hold is
 -- what the numbers below m hold that pass, and of the run that goes on at m what is left of it. Assumes nothing.
 use Prim.Native.Nat.{ℕ, zero, suc, _+_, _-_, _≤_, _<_}
 use mathlib.Core.Path.{_≡_, refl, sym, _∙_}
@@ -12,17 +12,20 @@ use borrow.Author.Tests.{lt-ltb, le-ltb}
 use lib.Dec.{ltb}
 use lib.IntN.{ℤ}
 use Rattle.rules.specs.Bounded.{sum, before, firstNot}
-use Rattle.rules.specs.Halves.{halfAt, halvesOf}
-use Rattle.rules.specs.Events.{inEvent, starts, endOf, shorts, sumFrom, shortsOf, three}
+use Rattle.rules.specs.Halves.{ofChannel, channels, squares, sumsAt, halfAt, halvesOf, known}
+use Rattle.rules.specs.Events.{inEvent, starts, endOf, shortOf, shorts, sumFrom, shortsOf, three}
 use Rattle.rules.specs.EventList.{eventFrom}
-use Rattle.rules.specs.Site.{sagShortfalls, sagShort}
+use Rattle.rules.specs.Site.{sagSum, sagShort, sagShorts}
 use Rattle.rules.specs.declared.Settings.{Settings}
+use Rattle.rules.specs.declared.Sums.{Sums}
 use Rattle.rules.specs.declared.Half.{Half}
-use Rattle.rules.specs.declared.Kind.the-variants.{Sag}
+use Rattle.rules.specs.declared.Kind.{Kind}
+use Rattle.rules.specs.declared.Kind.the-variants.{Sag, Interruption, Swell}
 use Rattle.rules.proofs.Adding.{sum-plus, sum-none}
 use Rattle.rules.proofs.Bounded.{sum-same}
-use Rattle.rules.proofs.Longest.{isStart, first-low}
+use Rattle.rules.proofs.Longest.{isStart, first-low, in-known}
 use Rattle.rules.proofs.Runs.{first-go, first-stop, first-end}
+use Rattle.rules.proofs.Samples.{known-is}
 
 -- ---- sums from a start up to an end
 
@@ -107,15 +110,77 @@ three-channels s h a e =
     (from-plus (λ k. shorts s (h k) .a + shorts s (h k) .b) (λ k. shorts s (h k) .c) a e
     ∙ rw (from-plus (λ k. shorts s (h k) .a) (λ k. shorts s (h k) .b) a e))
 
+-- of any one channel
+pub one-channel : (s : Settings) (h : ℕ → Half) (c a e : ℕ)
+    → ofChannel c (shortsOf s h a e) ≡ sumFrom (λ k. ofChannel c (shorts s (h k))) a e
+unfolding shortsOf
+one-channel s h zero a e = refl
+one-channel s h (suc zero) a e = refl
+one-channel s h (suc (suc c)) a e = refl
+
+-- what is told of each channel is told of channel c
+pub of-channels : (f : ℕ → ℕ) (c : ℕ) → c < 3 → ofChannel c (channels f) ≡ f c
+of-channels f zero l = refl
+of-channels f (suc zero) l = refl
+of-channels f (suc (suc zero)) l = refl
+of-channels f (suc (suc (suc c))) l = absurd (omega arith)
+
+-- what channel c lacks in a known half-cycle, by its samples
+known-short : (s : Settings) (xs : List ℤ) (c k : ℕ) → c < 3 → known (halfAt s xs k) ≡ true
+    → ofChannel c (shorts s (halfAt s xs k)) ≡ shortOf s (squares s xs k c)
+unfolding sumsAt
+known-short s xs zero k l e = rw (known-is s xs k e)
+known-short s xs (suc zero) k l e = rw (known-is s xs k e)
+known-short s xs (suc (suc zero)) k l e = rw (known-is s xs k e)
+known-short s xs (suc (suc (suc c))) k l e = absurd (omega arith)
+
 -- ---- the sags
 
-pub shortfalls-agree : (s : Settings) (xs : List ℤ) → sagShortfalls s xs ≡ sagShort s xs
-unfolding sagShortfalls sagShort eventFrom starts endOf
-shortfalls-agree s xs =
-    let h = halfAt s xs in
-    let n = halvesOf s xs in
-    let p = inEvent s h Sag in
-    sum-same (λ a. cond (isStart p a) (three (shortsOf s h a (firstNot p a (n - a)))) 0)
-    (λ a. cond (isStart p a) (sumFrom (λ k. three (shorts s (h k))) a (firstNot p a (n - a))) 0) n
-    (λ a l. rw (three-channels s h a (firstNot p a (n - a))))
-    ∙ runs-hold p (λ k. three (shorts s (h k))) n
+module _ (s : Settings) (xs : List ℤ) where
+  -- THE LAW: of each channel, the shortfalls of all sags add up to the sum straight from its samples
+  pub parts-agree : (c : ℕ) → c < 3 → sagSum (λ e. ofChannel c (e .parts)) s xs ≡ sagShort s xs c
+  unfolding sagSum sagShort eventFrom starts endOf
+  parts-agree c l =
+      let h = halfAt s xs in
+      let n = halvesOf s xs in
+      let p = inEvent s h Sag in
+      let short : ℕ → ℕ = λ k. ofChannel c (shorts s (h k)) in
+      let end : ℕ → ℕ = λ a. firstNot p a (n - a) in
+      sum-same (λ a. cond (isStart p a) (ofChannel c (channels (λ c. ofChannel c (shortsOf s h a (end a))))) 0) (λ a. cond (isStart p a) (sumFrom short a (end a)) 0) n
+      (λ a u. rw (of-channels (λ c. ofChannel c (shortsOf s h a (end a))) c l, one-channel s h c a (end a)))
+      ∙ runs-hold p short n
+      ∙ sum-same (λ k. cond (p k) (short k) 0) (λ k. cond (p k) (shortOf s (squares s xs k c)) 0) n
+      (λ k u.
+      of-cond-same (p k) (short k) (shortOf s (squares s xs k c)) (λ e. known-short s xs c k l (in-known s h Sag k e)))
+    where
+      of-cond-same : (b : Bool) (x y : ℕ) → (b ≡ true → x ≡ y) → cond b x 0 ≡ cond b y 0
+      of-cond-same true x y q = q refl
+      of-cond-same false x y q = refl
+
+  -- an event's shortfall is what the channels' make up
+  pub event-made-up : (kind : Kind) (a : ℕ) → three (eventFrom s xs kind a .parts) ≡ eventFrom s xs kind a .shortfall
+  unfolding eventFrom
+  event-made-up Sag a = refl
+  event-made-up Interruption a = refl
+  event-made-up Swell a = refl
+
+  -- and so the total of all sags
+  pub total-made-up : sagSum (λ e. e .shortfall) s xs ≡ sum (λ c. sagSum (λ e. ofChannel c (e .parts)) s xs) 3
+  unfolding sagSum
+  total-made-up =
+      sum-same (λ k. cond (starts s (halfAt s xs) Sag k) (eventFrom s xs Sag k .shortfall) 0) (λ k. part 0 k + part 1 k + part 2 k) (halvesOf s xs)
+      (λ k u. split (starts s (halfAt s xs) Sag k) (eventFrom s xs Sag k .parts) (eventFrom s xs Sag k .shortfall) (event-made-up Sag k))
+      ∙ sum-plus (λ k. part 0 k + part 1 k) (part 2) (halvesOf s xs)
+      ∙ omega (arith, sum-plus (part 0) (part 1) (halvesOf s xs))
+    where
+      part : ℕ → ℕ → ℕ
+      part c k = cond (starts s (halfAt s xs) Sag k) (ofChannel c (eventFrom s xs Sag k .parts)) 0
+
+      split : (b : Bool) (v : Sums) (x : ℕ) → three v ≡ x → cond b x 0 ≡ cond b (v .a) 0 + cond b (v .b) 0 + cond b (v .c) 0
+      split true v x q = sym q
+      split false v x q = refl
+
+  pub shortfalls-agree : sagSum (λ e. e .shortfall) s xs ≡ sagShorts s xs
+  shortfalls-agree =
+      total-made-up
+      ∙ sum-same (λ c. sagSum (λ e. ofChannel c (e .parts)) s xs) (sagShort s xs) 3 (λ c l. parts-agree c l)

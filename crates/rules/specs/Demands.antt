@@ -10,11 +10,11 @@ use lib.IntN.{ℤ, pos}
 use lib.ListN.{length, getD}
 use Rattle.rules.specs.Bounded.{all, count}
 use Rattle.rules.specs.Recorder.{inRange, settingsGood}
-use Rattle.rules.specs.Halves.{samplesOf, halfAt, halvesOf, known, full}
-use Rattle.rules.specs.Events.{begins, ends, starts, endOf}
+use Rattle.rules.specs.Halves.{ofChannel, samplesOf, halfAt, halvesOf, known, full}
+use Rattle.rules.specs.Events.{begins, ends, starts, endOf, three}
 use Rattle.rules.specs.EventList.{kindNumber, eventsOf}
 use Rattle.rules.specs.Scores.{isSag, isEvent}
-use Rattle.rules.specs.Site.{isHealthy, isDisturbed, isUnknown, isPlaced, isUnplaced, sagCell, sagShort, cells, total, mostHalves}
+use Rattle.rules.specs.Site.{isHealthy, isDisturbed, isUnknown, isPlaced, isUnplaced, sagCell, sagShort, sagShorts, cells, total, mostHalves}
 use Rattle.rules.specs.Refusals.{recordingCheck, byCheck, andThen, addCheck, added}
 use Rattle.rules.specs.declared.Settings.{Settings}
 use Rattle.rules.specs.declared.Half.{Half}
@@ -186,6 +186,7 @@ pub record Sound (t : Table) : Type 0 where
   pub interruptions-high : t .interruptions ≤ t .total
   pub swells-high : t .swells ≤ t .total
   pub shortfall-high : t .shortfall ≤ 3 * full (t .settings) * t .total
+  pub parts : three (t .parts) ≡ t .shortfall
 
 -- a table with settings s holds what the recordings add up to: each count its own, each straight from the samples
 pub record SumsUp (s : Settings) (t : Table) (rs : List (List ℤ)) : Type 0 where
@@ -200,4 +201,5 @@ pub record SumsUp (s : Settings) (t : Table) (rs : List (List ℤ)) : Type 0 whe
   pub sags : t .sags ≡ sumOver (λ xs. count (starts s (halfAt s xs) Sag) (halvesOf s xs)) rs
   pub interruptions : t .interruptions ≡ sumOver (λ xs. count (starts s (halfAt s xs) Interruption) (halvesOf s xs)) rs
   pub swells : t .swells ≡ sumOver (λ xs. count (starts s (halfAt s xs) Swell) (halvesOf s xs)) rs
-  pub shortfall : t .shortfall ≡ sumOver (sagShort s) rs
+  pub shortfall : t .shortfall ≡ sumOver (sagShorts s) rs
+  pub parts : (c : ℕ) → c < 3 → ofChannel c (t .parts) ≡ sumOver (λ xs. sagShort s xs c) rs

@@ -1,10 +1,10 @@
--- The event list: eight numbers an event, in order of start and then kind.
+-- The event list: eleven numbers an event, in order of start and then kind.
 use Prim.Native.Nat.{ℕ, _+_}
 use mathlib.Core.Bool.{cond}
 use mathlib.Core.List.{List, [], _∷_, _++_}
 use lib.IntN.{ℤ}
 use Rattle.rules.specs.Bounded.{join}
-use Rattle.rules.specs.Halves.{halfAt, halvesOf}
+use Rattle.rules.specs.Halves.{ofChannel, channels, halfAt, halvesOf}
 use Rattle.rules.specs.Events.{starts, endOf, seenOf, extremeOf, earliest, retainedOf, shortsOf, three, sixSums, typeOf}
 use Rattle.rules.specs.declared.Settings.{Settings}
 use Rattle.rules.specs.declared.Kind.{Kind}
@@ -17,7 +17,7 @@ kindNumber Sag = 1
 kindNumber Interruption = 2
 kindNumber Swell = 3
 
--- shortfall and type are a sag's, and 0 for the others
+-- shortfall, type and the shortfalls of the channels are a sag's, and 0 for the others
 abbrev pub ofSag : Kind → ℕ → ℕ
 ofSag Sag x = x
 ofSag Interruption x = 0
@@ -29,6 +29,7 @@ eventFrom s xs kind start =
     let h = halfAt s xs in
     let end = endOf s h (halvesOf s xs) kind start in
     let extreme = extremeOf h kind start end in
+    let shorts = shortsOf s h start end in
     record {
       kind = kindNumber kind;
       start = start;
@@ -36,16 +37,19 @@ eventFrom s xs kind start =
       seen = seenOf h start end;
       extreme = extreme;
       retained = retainedOf s extreme;
-      shortfall = ofSag kind (three (shortsOf s h start end));
+      shortfall = ofSag kind (three shorts);
       class = ofSag kind (typeOf (sixSums s xs (earliest h kind start end)));
+      parts = channels (λ c. ofSag kind (ofChannel c shorts));
     }
 
 -- how many numbers an event has, and which
 abbrev pub eventSize : ℕ
-eventSize = 8
+eventSize = 11
 
 abbrev pub wordsOf : Event → List ℕ
-wordsOf e = e .kind ∷ e .start ∷ e .end ∷ e .seen ∷ e .extreme ∷ e .retained ∷ e .shortfall ∷ e .class ∷ []
+wordsOf e =
+    e .kind ∷ e .start ∷ e .end ∷ e .seen ∷ e .extreme ∷ e .retained ∷ e .shortfall ∷ e .class
+    ∷ e .parts .a ∷ e .parts .b ∷ e .parts .c ∷ []
 
 -- the event of the kind that starts at k, if one does
 unfoldable pub eventAt : Settings → List ℤ → Kind → ℕ → List Event

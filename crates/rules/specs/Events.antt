@@ -156,6 +156,10 @@ shortsOf s h start end =
 abbrev pub three : Sums → ℕ
 three v = v .a + v .b + v .c
 
+-- the shortfalls of the channels make up the whole, in whole numbers
+abbrev pub makeUp : Sums → ℕ → Bool
+makeUp parts shortfall = eqb (three parts) shortfall
+
 -- ---- sag type
 
 abbrev pub twice : ℤ → ℤ

@@ -1,5 +1,5 @@
 -- Half-cycles: which there are, known or unknown, their sums S, and the exact comparisons of V with a percentage of R.
-use Prim.Native.Nat.{ℕ, _+_, _-_, _*_, _/_}
+use Prim.Native.Nat.{ℕ, zero, suc, _+_, _-_, _*_, _/_}
 use mathlib.Core.Bool.{Bool, true, false, not, _&&_, _||_, cond}
 use mathlib.Core.List.{List}
 use lib.ListN.{length}
@@ -11,6 +11,20 @@ use Rattle.rules.specs.declared.Settings.{Settings}
 use Rattle.rules.specs.declared.Sums.{Sums}
 use Rattle.rules.specs.declared.Half.{Half}
 use Rattle.rules.specs.declared.Half.the-variants.{Unknown, Known}
+
+-- ---- channels: a is 0, b is 1, c is 2
+
+-- the number of channel c
+abbrev pub ofChannel : ℕ → Sums → ℕ
+ofChannel zero v = v .a
+ofChannel (suc zero) v = v .b
+ofChannel (suc (suc c)) v = v .c
+
+-- what f gives of each channel
+abbrev pub channels : (ℕ → ℕ) → Sums
+channels f = record { a = f 0; b = f 1; c = f 2 }
+
+-- ---- half-cycles
 
 -- L, samples per channel
 abbrev pub samplesOf : List ℤ → ℕ
@@ -37,7 +51,7 @@ squares s xs k c = sum (λ i. square (sampleAt xs c (begin s k + i))) (s .n)
 
 -- S of all three
 unfoldable pub sumsAt : Settings → List ℤ → ℕ → Sums
-sumsAt s xs k = record { a = squares s xs k 0; b = squares s xs k 1; c = squares s xs k 2 }
+sumsAt s xs k = channels (squares s xs k)
 
 -- Half-cycle k. One that does not exist is told as unknown: it is in no event, and no end is seen by it.
 unfoldable pub halfAt : Settings → List ℤ → ℕ → Half

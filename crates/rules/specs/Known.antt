@@ -1,5 +1,6 @@
 -- The known answers: one table of cases, one statement. K1 to K12, each a recording; and sags on both sides of the curve's last
--- border and on both sides of a retained value's half, each by its event words.
+-- border, on both sides of a retained value's half, and with shortfalls of the channels that make up the whole or don't, each by its
+-- event words.
 use Prim.Native.Nat.{ℕ, _+_, _*_}
 use mathlib.Core.Path.{_≡_, refl}
 use mathlib.Core.List.{List, [], _∷_, _++_, map}
@@ -7,13 +8,14 @@ use lib.ListN.{replicate, set}
 use lib.IntN.{ℤ, pos, negsuc}
 use lib.Ieee.{binary64, div, ofInt, ofBits}
 use Rattle.rules.specs.Recorder.{firstBad, badSetting, settingsGood}
-use Rattle.rules.specs.Halves.{halvesOf, anyMissing, squares, sumsAt, halfAt, full}
+use Rattle.rules.specs.Halves.{channels, halvesOf, anyMissing, squares, sumsAt, halfAt, full}
 use Rattle.rules.specs.Events.{carries, inRun, inEvent, starts, endOf, seenOf, extremeOf, earliest, climb, retainedOf, shortsOf, sixSums, typeOf}
 use Rattle.rules.specs.EventList.{eventFrom, eventAt, eventsOf}
 use Rattle.rules.specs.Scores.{inBounds, sagGood, isEvent, reasonOf, scoring, millisOf}
-use Rattle.rules.specs.Site.{rowOf, columnOf, cellOf, isHealthy, isDisturbed, isUnknown, isPlaced, isUnplaced, sagCell, sagShortfalls, sagShort, grown, isUnsound}
+use Rattle.rules.specs.Site.{rowOf, columnOf, cellOf, isHealthy, isDisturbed, isUnknown, isPlaced, isUnplaced, sagCell, sagSum, sagShort, grown, isUnsound}
 use Rattle.rules.specs.Refusals.{recordingCheck, settingsCheck, roomCheck, listCheck, listed, written, freshened, soundCheck, fullCheck, addCheck, added}
 use Rattle.rules.specs.declared.Settings.{Settings}
+use Rattle.rules.specs.declared.Sums.{Sums}
 use Rattle.rules.specs.declared.Event.{Event}
 use Rattle.rules.specs.declared.Scoring.{Scoring}
 use Rattle.rules.specs.declared.Scoring.the-variants.{Scored, Unscored}
@@ -41,9 +43,9 @@ blocks (v ∷ vs) = block v v ++ blocks vs
 abbrev pub dip : ℕ → List ℤ
 dip v = blocks (1000 ∷ 1000 ∷ v ∷ v ∷ 1000 ∷ 1000 ∷ [])
 
--- what the rules say of a recording: the answer of the list and the lent run, 17 numbers that were all 9; then of each event its
--- score, milliseconds of its shortfall, row and cell; then the table of a fresh site that was offered it, and the shortfall
--- straight from the samples
+-- what the rules say of a recording: the answer of the list and the lent run, 23 numbers that were all 9; then of each event its
+-- score, milliseconds of its shortfall, row and cell; then the table of a fresh site that was offered it, and the shortfall of each
+-- channel straight from its samples
 record Case : Type 0 where
   given : List ℤ
   answer : Listed
@@ -53,21 +55,21 @@ record Case : Type 0 where
   rows : List ℕ
   cells : List ℕ
   site : Handed
-  straight : ℕ
+  straight : Sums
 
 answersTo : List ℤ → Case
 answersTo xs =
     let events = eventsOf settings xs in
     record {
       given = xs;
-      answer = listed settings xs 17;
-      run = written settings xs (replicate 17 9);
+      answer = listed settings xs 23;
+      run = written settings xs (replicate 23 9);
       scores = map (scoring settings) events;
       millis = map (λ (e : Event). millisOf settings (e .shortfall)) events;
       rows = map (λ (e : Event). rowOf settings (e .extreme)) events;
       cells = map (cellOf settings) events;
       site = added (freshened settings .table) xs;
-      straight = sagShort settings xs;
+      straight = channels (sagShort settings xs);
     }
 
 -- what the rules say of event words under settings: score and cell
@@ -84,9 +86,10 @@ judgedOf s e = record { under = s; event = e; score = scoring s e; cell = cellOf
 abbrev bits : ℕ → ℕ → Scoring
 bits severity energy = Scored (record { severity = ofBits binary64 severity; energy = ofBits binary64 energy })
 
--- the table after one recording: total, healthy, disturbed, unknown; cells; unplaced; sags, interruptions, swells; shortfall
-abbrev after : ℕ → ℕ → ℕ → ℕ → List ℕ → ℕ → ℕ → ℕ → ℕ → ℕ → Handed
-after total healthy disturbed unknown cells unplaced sags interruptions swells shortfall =
+-- the table after one recording: total, healthy, disturbed, unknown; cells; unplaced; sags, interruptions, swells; shortfall,
+-- and that of each channel
+abbrev after : ℕ → ℕ → ℕ → ℕ → List ℕ → ℕ → ℕ → ℕ → ℕ → ℕ → Sums → Handed
+after total healthy disturbed unknown cells unplaced sags interruptions swells shortfall parts =
     record {
       answer = Accepted;
       table =
@@ -102,8 +105,16 @@ after total healthy disturbed unknown cells unplaced sags interruptions swells s
             interruptions = interruptions;
             swells = swells;
             shortfall = shortfall;
+            parts = parts;
           };
     }
+
+-- a, b and c; the same of all three
+abbrev abc : ℕ → ℕ → ℕ → Sums
+abc a b c = record { a = a; b = b; c = c }
+
+abbrev alike : ℕ → Sums
+alike x = abc x x x
 
 abbrev none : List ℕ
 none = replicate 40 0
@@ -120,145 +131,149 @@ cases =
     record {
       given = dip 1000;
       answer = Events 0;
-      run = nines 17;
+      run = nines 23;
       scores = [];
       millis = [];
       rows = [];
       cells = [];
-      site = after 5 5 0 0 none 0 0 0 0 0;
-      straight = 0;
+      site = after 5 5 0 0 none 0 0 0 0 0 (alike 0);
+      straight = alike 0;
     }
     -- K2: severity 1, energy 0.045
     ∷ record {
       given = dip 500;
       answer = Events 1;
-      run = 1 ∷ 1 ∷ 4 ∷ 3 ∷ 2000000 ∷ 500 ∷ 36000000 ∷ 0 ∷ nines 9;
+      run = 1 ∷ 1 ∷ 4 ∷ 3 ∷ 2000000 ∷ 500 ∷ 36000000 ∷ 0 ∷ 12000000 ∷ 12000000 ∷ 12000000 ∷ nines 12;
       scores = bits 0x3ff0_0000_0000_0000 0x3fa7_0a3d_70a3_d70a ∷ [];
       millis = 45 ∷ [];
       rows = 2 ∷ [];
       cells = 17 ∷ [];
-      site = after 5 2 3 0 (cell 17) 0 1 0 0 36000000;
-      straight = 36000000;
+      site = after 5 2 3 0 (cell 17) 0 1 0 0 36000000 (alike 12000000);
+      straight = alike 12000000;
     }
     -- K3
     ∷ record {
       given = blocks (replicate 6 900);
       answer = Events 0;
-      run = nines 17;
+      run = nines 23;
       scores = [];
       millis = [];
       rows = [];
       cells = [];
-      site = after 5 5 0 0 none 0 0 0 0 0;
-      straight = 0;
+      site = after 5 5 0 0 none 0 0 0 0 0 (alike 0);
+      straight = alike 0;
     }
     -- K4: severity 0.101, energy 0.005
     ∷ record {
       given = dip 899;
       answer = Events 1;
-      run = 1 ∷ 2 ∷ 3 ∷ 3 ∷ 6465608 ∷ 899 ∷ 4603176 ∷ 0 ∷ nines 9;
+      run = 1 ∷ 2 ∷ 3 ∷ 3 ∷ 6465608 ∷ 899 ∷ 4603176 ∷ 0 ∷ 1534392 ∷ 1534392 ∷ 1534392 ∷ nines 12;
       scores = bits 0x3fb9_db22_d0e5_6042 0x3f74_7ae1_47ae_147b ∷ [];
       millis = 5 ∷ [];
       rows = 4 ∷ [];
       cells = 32 ∷ [];
-      site = after 5 4 1 0 (cell 32) 0 1 0 0 4603176;
-      straight = 4603176;
+      site = after 5 4 1 0 (cell 32) 0 1 0 0 4603176 (alike 1534392);
+      straight = alike 1534392;
     }
     -- K5: severity 0.202, energy 0.005
     ∷ record {
       given = blocks (1000 ∷ 899 ∷ 899 ∷ 919 ∷ 919 ∷ 920 ∷ 920 ∷ []);
       answer = Events 1;
-      run = 1 ∷ 1 ∷ 5 ∷ 3 ∷ 6465608 ∷ 899 ∷ 4603176 ∷ 0 ∷ nines 9;
+      run = 1 ∷ 1 ∷ 5 ∷ 3 ∷ 6465608 ∷ 899 ∷ 4603176 ∷ 0 ∷ 1534392 ∷ 1534392 ∷ 1534392 ∷ nines 12;
       scores = bits 0x3fc9_db22_d0e5_6042 0x3f74_7ae1_47ae_147b ∷ [];
       millis = 5 ∷ [];
       rows = 4 ∷ [];
       cells = 33 ∷ [];
-      site = after 6 2 4 0 (cell 33) 0 1 0 0 4603176;
-      straight = 4603176;
+      site = after 6 2 4 0 (cell 33) 0 1 0 0 4603176 (alike 1534392);
+      straight = alike 1534392;
     }
     -- K6: severity 2, energy 0.06
     ∷ record {
       given = dip 0;
       answer = Events 2;
-      run = 1 ∷ 1 ∷ 4 ∷ 3 ∷ 0 ∷ 0 ∷ 48000000 ∷ 0 ∷ 2 ∷ 2 ∷ 3 ∷ 3 ∷ 0 ∷ 0 ∷ 0 ∷ 0 ∷ nines 1;
+      run =
+          1 ∷ 1 ∷ 4 ∷ 3 ∷ 0 ∷ 0 ∷ 48000000 ∷ 0 ∷ 16000000 ∷ 16000000 ∷ 16000000
+          ∷ 2 ∷ 2 ∷ 3 ∷ 3 ∷ 0 ∷ 0 ∷ 0 ∷ 0 ∷ 0 ∷ 0 ∷ 0 ∷ nines 1;
       scores = bits 0x4000_0000_0000_0000 0x3fae_b851_eb85_1eb8 ∷ Unscored 4 ∷ [];
       millis = 60 ∷ 0 ∷ [];
       rows = 0 ∷ 0 ∷ [];
       cells = 1 ∷ 40 ∷ [];
-      site = after 5 2 3 0 (cell 1) 0 1 1 0 48000000;
-      straight = 48000000;
+      site = after 5 2 3 0 (cell 1) 0 1 1 0 48000000 (alike 16000000);
+      straight = alike 16000000;
     }
     -- K7: retained 101, by 100.501; severity 1.798, energy 0.059
     ∷ record {
       given = blocks (1000 ∷ 1000 ∷ 100 ∷ 101 ∷ 1000 ∷ 1000 ∷ []);
       answer = Events 1;
-      run = 1 ∷ 1 ∷ 4 ∷ 3 ∷ 80804 ∷ 101 ∷ 47515176 ∷ 0 ∷ nines 9;
+      run = 1 ∷ 1 ∷ 4 ∷ 3 ∷ 80804 ∷ 101 ∷ 47515176 ∷ 0 ∷ 15838392 ∷ 15838392 ∷ 15838392 ∷ nines 12;
       scores = bits 0x3ffc_c49b_a5e3_53f8 0x3fae_353f_7ced_9168 ∷ [];
       millis = 59 ∷ [];
       rows = 1 ∷ [];
       cells = 9 ∷ [];
-      site = after 5 2 3 0 (cell 9) 0 1 0 0 47515176;
-      straight = 47515176;
+      site = after 5 2 3 0 (cell 9) 0 1 0 0 47515176 (alike 15838392);
+      straight = alike 15838392;
     }
     -- K8
     ∷ record {
       given = blocks (500 ∷ 500 ∷ 1000 ∷ 1000 ∷ []);
       answer = Events 1;
-      run = 1 ∷ 0 ∷ 2 ∷ 2 ∷ 2000000 ∷ 500 ∷ 27000000 ∷ 0 ∷ nines 9;
+      run = 1 ∷ 0 ∷ 2 ∷ 2 ∷ 2000000 ∷ 500 ∷ 27000000 ∷ 0 ∷ 9000000 ∷ 9000000 ∷ 9000000 ∷ nines 12;
       scores = Unscored 1 ∷ [];
       millis = 33 ∷ [];
       rows = 2 ∷ [];
       cells = 40 ∷ [];
-      site = after 3 1 2 0 none 1 1 0 0 27000000;
-      straight = 27000000;
+      site = after 3 1 2 0 none 1 1 0 0 27000000 (alike 9000000);
+      straight = alike 9000000;
     }
     -- K9: one sample of the fifth block missing
     ∷ record {
       given = set (blocks (1000 ∷ 1000 ∷ 500 ∷ 500 ∷ 500 ∷ 500 ∷ 1000 ∷ 1000 ∷ [])) 48 (negsuc 2147483647);
       answer = Events 2;
-      run = 1 ∷ 1 ∷ 3 ∷ 1 ∷ 2000000 ∷ 500 ∷ 27000000 ∷ 0 ∷ 1 ∷ 5 ∷ 6 ∷ 2 ∷ 5000000 ∷ 791 ∷ 9000000 ∷ 0 ∷ nines 1;
+      run =
+          1 ∷ 1 ∷ 3 ∷ 1 ∷ 2000000 ∷ 500 ∷ 27000000 ∷ 0 ∷ 9000000 ∷ 9000000 ∷ 9000000
+          ∷ 1 ∷ 5 ∷ 6 ∷ 2 ∷ 5000000 ∷ 791 ∷ 9000000 ∷ 0 ∷ 3000000 ∷ 3000000 ∷ 3000000 ∷ nines 1;
       scores = Unscored 2 ∷ Unscored 1 ∷ [];
       millis = 33 ∷ 11 ∷ [];
       rows = 2 ∷ 3 ∷ [];
       cells = 40 ∷ 40 ∷ [];
-      site = after 7 2 3 2 none 2 2 0 0 36000000;
-      straight = 36000000;
+      site = after 7 2 3 2 none 2 2 0 0 36000000 (alike 12000000);
+      straight = alike 12000000;
     }
     -- K10
     ∷ record {
       given = dip 1200;
       answer = Events 1;
-      run = 3 ∷ 1 ∷ 4 ∷ 3 ∷ 11520000 ∷ 1200 ∷ 0 ∷ 0 ∷ nines 9;
+      run = 3 ∷ 1 ∷ 4 ∷ 3 ∷ 11520000 ∷ 1200 ∷ 0 ∷ 0 ∷ 0 ∷ 0 ∷ 0 ∷ nines 12;
       scores = Unscored 4 ∷ [];
       millis = 0 ∷ [];
       rows = 4 ∷ [];
       cells = 40 ∷ [];
-      site = after 5 2 3 0 none 0 0 0 1 0;
-      straight = 0;
+      site = after 5 2 3 0 none 0 0 0 1 0 (alike 0);
+      straight = alike 0;
     }
     -- K11
     ∷ record {
       given = blocks (500 ∷ 500 ∷ []);
       answer = Events 1;
-      run = 1 ∷ 0 ∷ 1 ∷ 0 ∷ 2000000 ∷ 500 ∷ 18000000 ∷ 0 ∷ nines 9;
+      run = 1 ∷ 0 ∷ 1 ∷ 0 ∷ 2000000 ∷ 500 ∷ 18000000 ∷ 0 ∷ 6000000 ∷ 6000000 ∷ 6000000 ∷ nines 12;
       scores = Unscored 3 ∷ [];
       millis = 22 ∷ [];
       rows = 2 ∷ [];
       cells = 40 ∷ [];
-      site = after 1 0 1 0 none 1 1 0 0 18000000;
-      straight = 18000000;
+      site = after 1 0 1 0 none 1 1 0 0 18000000 (alike 6000000);
+      straight = alike 6000000;
     }
     -- K12: K2 on channel a only; severity 1, energy 0.015
     ∷ record {
       given = block 1000 1000 ++ block 1000 1000 ++ block 500 1000 ++ block 500 1000 ++ block 1000 1000 ++ block 1000 1000;
       answer = Events 1;
-      run = 1 ∷ 1 ∷ 4 ∷ 3 ∷ 2000000 ∷ 500 ∷ 12000000 ∷ 4 ∷ nines 9;
+      run = 1 ∷ 1 ∷ 4 ∷ 3 ∷ 2000000 ∷ 500 ∷ 12000000 ∷ 4 ∷ 12000000 ∷ 0 ∷ 0 ∷ nines 12;
       scores = bits 0x3ff0_0000_0000_0000 0x3f8e_b851_eb85_1eb8 ∷ [];
       millis = 15 ∷ [];
       rows = 2 ∷ [];
       cells = 17 ∷ [];
-      site = after 5 2 3 0 (cell 17) 0 1 0 0 12000000;
-      straight = 12000000;
+      site = after 5 2 3 0 (cell 17) 0 1 0 0 12000000 (abc 12000000 0 0);
+      straight = abc 12000000 0 0;
     }
     ∷ []
 
@@ -278,6 +293,7 @@ at899 h =
       retained = 899;
       shortfall = 4603176 * h;
       class = 0;
+      parts = alike (1534392 * h);
     }
 
 -- K7's sag with another extreme and its retained value
@@ -292,6 +308,22 @@ near100 extreme retained =
       retained = retained;
       shortfall = 47515176;
       class = 0;
+      parts = alike 15838392;
+    }
+
+-- the sag of K2 with its shortfall shared out among the channels
+abbrev shared : Sums → Event
+shared parts =
+    record {
+      kind = 1;
+      start = 1;
+      end = 4;
+      seen = 3;
+      extreme = 2000000;
+      retained = 500;
+      shortfall = 36000000;
+      class = 0;
+      parts = parts;
     }
 
 judged : List Judged
@@ -308,8 +340,13 @@ judged =
     ∷ record { under = settings; event = near100 80802 101; score = bits 0x3ffc_c49b_a5e3_53f8 0x3fae_353f_7ced_9168; cell = 9 }
     -- one unit of S below it: 900 / 500 = 1.8
     ∷ record { under = settings; event = near100 80801 100; score = bits 0x3ffc_cccc_cccc_cccd 0x3fae_353f_7ced_9168; cell = 9 }
+    -- shares that make up the shortfall, whichever they are: severity 1, energy 0.045
+    ∷ record { under = settings; event = shared (abc 35999999 0 1); score = bits 0x3ff0_0000_0000_0000 0x3fa7_0a3d_70a3_d70a; cell = 17 }
+    -- one short of it; and 2 to the 64th more than it, which 64 bits take for it: not events
+    ∷ record { under = settings; event = shared (abc 35999999 0 0); score = Unscored 5; cell = 40 }
+    ∷ record { under = settings; event = shared (abc 0x8000_0000_0000_0000 0x8000_0000_0000_0000 36000000); score = Unscored 5; cell = 40 }
     ∷ []
 
 known-answers : (map (λ (c : Case). answersTo (c .given)) cases ≡ cases) × (map (λ (c : Judged). judgedOf (c .under) (c .event)) judged ≡ judged)
-unfolding answersTo cases judgedOf judged firstBad badSetting settingsGood halvesOf anyMissing squares sumsAt halfAt full carries inRun inEvent starts endOf seenOf extremeOf earliest climb retainedOf shortsOf sixSums typeOf eventFrom eventAt eventsOf inBounds sagGood isEvent reasonOf scoring rowOf columnOf cellOf isHealthy isDisturbed isUnknown isPlaced isUnplaced sagCell sagShortfalls sagShort grown isUnsound recordingCheck settingsCheck roomCheck listCheck listed written freshened soundCheck fullCheck addCheck added div ofInt ofBits
+unfolding answersTo cases judgedOf judged firstBad badSetting settingsGood halvesOf anyMissing squares sumsAt halfAt full carries inRun inEvent starts endOf seenOf extremeOf earliest climb retainedOf shortsOf sixSums typeOf eventFrom eventAt eventsOf inBounds sagGood isEvent reasonOf scoring rowOf columnOf cellOf isHealthy isDisturbed isUnknown isPlaced isUnplaced sagCell sagSum sagShort grown isUnsound recordingCheck settingsCheck roomCheck listCheck listed written freshened soundCheck fullCheck addCheck added div ofInt ofBits
 known-answers = (refl, refl)

@@ -1,6 +1,6 @@
 -- What the rules say, as facts of the sums S, the samples, durations, settings and floats, in other words than the tests of the other
--- files. Of those they use only `settingsGood`, `badSetting`, `square` and `eventsOf`, which have laws of their own. The laws hold each
--- definition to these.
+-- files. Of those they use only `ofChannel`, and `settingsGood`, `badSetting`, `square` and `eventsOf`, which have laws of their own. The
+-- laws hold each definition to these.
 use Prim.Native.Nat.{ℕ, zero, suc, _+_, _-_, _*_, _/_, _≤_, _<_}
 use mathlib.Core.Path.{_≡_}
 use mathlib.Core.Bool.{true, false}
@@ -11,7 +11,7 @@ use lib.Ieee.{Float}
 use lib.Ieee.Exact.{HasValue}
 use lib.ListN.{length, getD}
 use Rattle.rules.specs.Recorder.{badSetting, settingsGood}
-use Rattle.rules.specs.Halves.{square}
+use Rattle.rules.specs.Halves.{ofChannel, square}
 use Rattle.rules.specs.EventList.{eventsOf}
 use Rattle.rules.specs.declared.Settings.{Settings}
 use Rattle.rules.specs.declared.Sums.{Sums}
@@ -26,12 +26,6 @@ use Rattle.rules.specs.declared.Listed.{Listed}
 use Rattle.rules.specs.declared.Listed.the-variants.{Events, Turned}
 
 -- ---- channels
-
--- S of channel c: a is 0, b is 1, c is 2
-abbrev pub ofChannel : ℕ → Sums → ℕ
-ofChannel zero v = v .a
-ofChannel (suc zero) v = v .b
-ofChannel (suc (suc c)) v = v .c
 
 -- P holds of S of some channel, of S of every channel
 abbrev pub Some : Sums → (ℕ → Type 0) → Type 0
@@ -175,13 +169,13 @@ Given s xs (Refused (Room n)) = ⊥
 Given s xs (Refused (Full n)) = ⊥
 Given s xs (Refused Unsound) = ⊥
 
--- an answer of the list is given exactly if: settings and recording are accepted, n is the number of events and 8 x n is not
+-- an answer of the list is given exactly if: settings and recording are accepted, n is the number of events and 11 x n is not
 -- above the room; or a setting is out of its range, and the refusal is that; or the recording has it; or both are accepted and
--- the room is below 8 x number of events, which is its place
+-- the room is below 11 x number of events, which is its place
 abbrev pub Answered : Settings → List ℤ → ℕ → Listed → Type 0
 Answered s xs room (Events n) =
-    (settingsGood s ≡ true) × Given s xs Accepted × (n ≡ length (eventsOf s xs)) × (8 * n ≤ room)
+    (settingsGood s ≡ true) × Given s xs Accepted × (n ≡ length (eventsOf s xs)) × (11 * n ≤ room)
 Answered s xs room (Turned r) =
     ((settingsGood s ≡ false) × (r ≡ Setting (badSetting s)))
     ⊎ (((settingsGood s ≡ true) × Given s xs (Refused r))
-    ⊎ ((settingsGood s ≡ true) × Given s xs Accepted × (r ≡ Room (length (eventsOf s xs))) × (room < 8 * length (eventsOf s xs))))
+    ⊎ ((settingsGood s ≡ true) × Given s xs Accepted × (r ≡ Room (length (eventsOf s xs))) × (room < 11 * length (eventsOf s xs))))

@@ -73,7 +73,7 @@ andThen first next = byCheck first next (λ r. Refused r)
 
 -- ---- listing: 1 to 7
 
--- 7 room below 8 x number of events
+-- 7 room below 11 x number of events
 unfoldable pub roomCheck : Settings → List ℤ → ℕ → Taken
 roomCheck s xs room =
     let n = length (eventsOf s xs) in cond (ltb room (eventSize * n)) (Refused (Room n)) Accepted

@@ -6,7 +6,7 @@ use lib.Dec.{leb, ltb, eqb}
 use lib.Ieee.{Float, binary64, div, ofInt}
 use Rattle.rules.specs.Recorder.{within, settingsGood}
 use Rattle.rules.specs.Halves.{full, below}
-use Rattle.rules.specs.Events.{retainedOf}
+use Rattle.rules.specs.Events.{retainedOf, makeUp}
 use Rattle.rules.specs.declared.Settings.{Settings}
 use Rattle.rules.specs.declared.Event.{Event}
 use Rattle.rules.specs.declared.Score.{Score}
@@ -33,11 +33,12 @@ sagGood s e =
 abbrev pub otherGood : Event → Bool
 otherGood e = eqb (e .shortfall) 0 && eqb (e .class) 0
 
--- and the retained value is that of the extreme
+-- and of any kind the retained value is that of the extreme, and the shortfalls of the channels make up the shortfall
 unfoldable pub isEvent : Settings → Event → Bool
 isEvent s e =
     inBounds s e
-    && (eqb (e .retained) (retainedOf s (e .extreme)) && cond (isSag e) (sagGood s e) (otherGood e))
+    && (eqb (e .retained) (retainedOf s (e .extreme)) && makeUp (e .parts) (e .shortfall)
+    && cond (isSag e) (sagGood s e) (otherGood e))
 
 -- ---- reasons
 

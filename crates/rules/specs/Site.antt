@@ -7,8 +7,8 @@ use lib.IntN.{ℤ}
 use lib.Dec.{leb, ltb, eqb}
 use Rattle.rules.specs.Bounded.{count, sum}
 use Rattle.rules.specs.Recorder.{settingsGood}
-use Rattle.rules.specs.Halves.{halfAt, halvesOf, known, full, atMost}
-use Rattle.rules.specs.Events.{inEvent, starts, endOf, startSeen, endSeen, extremeOf, shorts, three}
+use Rattle.rules.specs.Halves.{ofChannel, channels, squares, halfAt, halvesOf, known, full, atMost}
+use Rattle.rules.specs.Events.{inEvent, starts, endOf, startSeen, endSeen, extremeOf, shortOf, makeUp}
 use Rattle.rules.specs.EventList.{eventFrom}
 use Rattle.rules.specs.Scores.{reasonOf}
 use Rattle.rules.specs.declared.Settings.{Settings}
@@ -86,15 +86,19 @@ sagCell s h n k =
 
 -- ---- shortfall
 
--- as the table adds it up: the seventh number of every sag of the list
-unfoldable pub sagShortfalls : Settings → List ℤ → ℕ
-sagShortfalls s xs =
-    sum (λ k. let e = eventFrom s xs Sag k in cond (starts s (halfAt s xs) Sag k) (e .shortfall) 0) (halvesOf s xs)
+-- as the table adds it up: one and the same number of every sag of the list
+unfoldable pub sagSum : (Event → ℕ) → Settings → List ℤ → ℕ
+sagSum number s xs =
+    sum (λ k. let e = eventFrom s xs Sag k in cond (starts s (halfAt s xs) Sag k) (number e) 0) (halvesOf s xs)
 
--- straight from the samples: over every half-cycle that lies in a sag
-unfoldable pub sagShort : Settings → List ℤ → ℕ
-sagShort s xs =
-    sum (λ k. cond (inEvent s (halfAt s xs) Sag k) (three (shorts s (halfAt s xs k))) 0) (halvesOf s xs)
+-- straight from the samples of channel c: over every half-cycle that lies in a sag
+unfoldable pub sagShort : Settings → List ℤ → ℕ → ℕ
+sagShort s xs c =
+    sum (λ k. cond (inEvent s (halfAt s xs) Sag k) (shortOf s (squares s xs k c)) 0) (halvesOf s xs)
+
+-- and of all three
+abbrev pub sagShorts : Settings → List ℤ → ℕ
+sagShorts s xs = sum (sagShort s xs) 3
 
 -- ---- the table of one recording, added to a table
 
@@ -119,7 +123,8 @@ grown t xs =
       sags = t .sags + count (starts s h Sag) n;
       interruptions = t .interruptions + count (starts s h Interruption) n;
       swells = t .swells + count (starts s h Swell) n;
-      shortfall = t .shortfall + sagShortfalls s xs;
+      shortfall = t .shortfall + sagSum (λ e. e .shortfall) s xs;
+      parts = channels (λ c. ofChannel c (t .parts) + sagSum (λ e. ofChannel c (e .parts)) s xs);
     }
 
 -- ---- fresh, zeros, unsound
@@ -138,6 +143,7 @@ empty s =
       interruptions = 0;
       swells = 0;
       shortfall = 0;
+      parts = channels (λ c. 0);
     }
 
 abbrev pub zeroSettings : Settings
@@ -152,7 +158,8 @@ abbrev pub mostHalves : ℕ
 mostHalves = 4000000
 
 -- settings bad; total above 4,000,000; the three half-cycle counts don't sum to it; cells and unplaced don't sum to sags; any
--- event kind above total; shortfall above 3 x N x R x R x total. No. 7 of document 02 has taken one condition out
+-- event kind above total; shortfall above 3 x N x R x R x total; the shortfalls of the channels don't make it up. No. 7 of document
+-- 02 has taken one condition out, and No. 5 has put the last one in
 unfoldable pub isUnsound : Table → Bool
 isUnsound t =
     not (settingsGood (t .settings)) || ltb mostHalves (t .total)
@@ -160,3 +167,4 @@ isUnsound t =
     || not (eqb (total (t .cells) + t .unplaced) (t .sags))
     || (ltb (t .total) (t .sags) || ltb (t .total) (t .interruptions) || ltb (t .total) (t .swells))
     || ltb (3 * full (t .settings) * t .total) (t .shortfall)
+    || not (makeUp (t .parts) (t .shortfall))

@@ -1,4 +1,5 @@
 // The score of one event: its retained value, the reason why it has no score, severity and energy, and its cell.
+use numbers::adds_up;
 use rules::Event;
 use rules::Score;
 use rules::Scoring;
@@ -98,7 +99,7 @@ fn sag_good(s: Settings, e: Event) -> bool
     below & (e.shortfall <= 3 * m * h) & (e.class <= 6)
 }
 
-// Whether the eight numbers are an event.
+// Whether the eleven numbers are an event.
 fn is_event(s: Settings, e: Event) -> bool
     requires { ⌜ settingsGood s ≡ true ⌝ }
     ensures { λ r. ⌜ r ≡ isEvent s e ⌝ }
@@ -106,7 +107,9 @@ fn is_event(s: Settings, e: Event) -> bool
     if !in_bounds(s, e) {
         return false;
     }
-    let kept = e.retained == retained(s, e.extreme);
+    let parts = e.parts;
+    let made_up = adds_up(e.shortfall, parts.a, parts.b, parts.c);
+    let kept = (e.retained == retained(s, e.extreme)) & made_up;
     if e.kind == 1 {
         return kept & sag_good(s, e);
     }

@@ -15,7 +15,7 @@ use lib.Seq.{drop-cons, ext-getD}
 use Rattle.rules.specs.Bounded.{count}
 use Rattle.rules.specs.Recorder.{settingsGood, badSetting}
 use Rattle.rules.specs.Halves.{halfAt, halvesOf, full}
-use Rattle.rules.specs.Events.{plus}
+use Rattle.rules.specs.Events.{three, makeUp, plus}
 use Rattle.rules.specs.Site.{cells, isPlaced, sagCell, total, cellsFrom, empty, grown, isUnsound}
 use Rattle.rules.specs.Refusals.{recordingCheck, soundCheck, fullCheck, addCheck, added}
 use Rattle.rules.proofs.Booleans.{cases, neither, not-both}
@@ -35,10 +35,7 @@ use Rattle.site.specs.Merging.{Mergeable, merged, Adding, addedTo}
 
 -- ---- three counts and a total
 
-pub some-above : (t a b c : ℕ) → ltb t a || ltb t b || ltb t c ≡ true → eqb (a + b + c) t ≡ false
-some-above t a b c h = ne-eqb (a + b + c) t (λ e. not-both (ltb t a || ltb t b || ltb t c) h (rw (le-ltb t a (omega arith), le-ltb t b (omega arith), le-ltb t c (omega arith))))
-
-pub none-above : (t a b c : ℕ) → ltb t a || ltb t b || ltb t c ≡ false → (a ≤ t) × (b ≤ t) × (c ≤ t)
+none-above : (t a b c : ℕ) → ltb t a || ltb t b || ltb t c ≡ false → (a ≤ t) × (b ≤ t) × (c ≤ t)
 none-above t a b c h =
     let x = neither (ltb t a || ltb t b) (ltb t c) h in
     let y = neither (ltb t a) (ltb t b) (x .0) in (ltb-false t a (y .0), ltb-false t b (y .1), ltb-false t c (x .1))
@@ -116,9 +113,12 @@ module _ (t : Table) where
   product-high g l =
       let three : 3 * full (t .settings) ≤ 3840000000000 = omega (arith, full-high (t .settings) (good (t .settings) g)) in mul-le-mul three l
 
+  pub parts-bad : makeUp (t .parts) (t .shortfall) ≡ false → true ≡ isUnsound t
+  parts-bad e = unsound-when (λ s. eqb-false (three (t .parts)) (t .shortfall) e (s .parts))
+
   pub shortfall-tells : settingsGood (t .settings) ≡ true → t .total ≤ 4000000 → CountsFine → eqb (t .healthy + t .disturbed + t .unknown) (t .total) ≡ true
-      → eqb (total (t .cells) + t .unplaced) (t .sags) ≡ true → ltb (3 * full (t .settings) * t .total) (t .shortfall) ≡ isUnsound t
-  shortfall-tells g l c d e =
+      → eqb (total (t .cells) + t .unplaced) (t .sags) ≡ true → makeUp (t .parts) (t .shortfall) ≡ true → ltb (3 * full (t .settings) * t .total) (t .shortfall) ≡ isUnsound t
+  shortfall-tells g l c d e m =
       ⊎-elim
       (λ x. x ∙ unsound-when (λ s. omega (arith, s .shortfall-high, ltb-true (3 * full (t .settings) * t .total) (t .shortfall) x)))
       (λ x.
@@ -133,6 +133,7 @@ module _ (t : Table) where
         interruptions-high = c .interruptions-high;
         swells-high = c .swells-high;
         shortfall-high = ltb-false (3 * full (t .settings) * t .total) (t .shortfall) x;
+        parts = eqb-true (three (t .parts)) (t .shortfall) m;
       })))
       (cases (ltb (3 * full (t .settings) * t .total) (t .shortfall)))
 
@@ -254,6 +255,7 @@ module _ (t : Table) (xs : List ℤ) (forty : length (t .cells) ≡ 40) where
         interruptions-few = omega (arith, s .interruptions-high, s .total-high);
         swells-few = omega (arith, s .swells-high, s .total-high);
         shortfall-low = omega (arith, s .shortfall-high, high);
+        parts-low = omega (arith, s .parts, s .shortfall-high, high);
       }
 
   -- ---- the table of an accepted recording, added

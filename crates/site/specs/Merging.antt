@@ -3,6 +3,8 @@ use Prim.Native.Nat.{ℕ, _+_, _-_, _≤_}
 use mathlib.Core.Bool.{cond}
 use lib.Dec.{ltb}
 use lib.ListN.{getD}
+use Rattle.rules.specs.Halves.{ofChannel, channels}
+use Rattle.rules.specs.Events.{three}
 use Rattle.rules.specs.Site.{cellsFrom, mostHalves}
 use Rattle.rules.specs.declared.Table.{Table}
 use Rattle.rules.specs.declared.Site.{Site as Handed}
@@ -23,6 +25,7 @@ merged t u =
       interruptions = t .interruptions + u .interruptions;
       swells = t .swells + u .swells;
       shortfall = t .shortfall + u .shortfall;
+      parts = channels (λ c. ofChannel c (t .parts) + ofChannel c (u .parts));
     }
 
 -- sums that fit
@@ -37,6 +40,7 @@ pub record Mergeable (t u : Table) : Type 0 where
   pub interruptions-few : t .interruptions + u .interruptions ≤ 4000000
   pub swells-few : t .swells + u .swells ≤ 4000000
   pub shortfall-low : t .shortfall + u .shortfall ≤ 15360000000000000000
+  pub parts-low : three (t .parts) + three (u .parts) ≤ 15360000000000000000
 
 -- the table of a recording added to a sound table, where there is room for its half-cycles
 pub record Adding (t u : Table) : Type 0 where

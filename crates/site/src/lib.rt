@@ -13,6 +13,8 @@ use checks::check_settings;
 use checks::check_shape;
 use checks::first_bad_setting;
 use numbers::add_each;
+use numbers::add_sums;
+use numbers::adds_up;
 use numbers::min;
 use rules::Refusal;
 use rules::Settings;
@@ -22,17 +24,6 @@ use rules::Taken;
 use score::full_of;
 use survey::empty_table;
 use survey::table_of;
-
-// Whether three counts make up the total. A count above the total is told first: then no sum can wrap and look right.
-fn adds_up(total: u64, a: u64, b: u64, c: u64) -> bool
-    requires { ⌜ total ≤ 4000000 ⌝ }
-    ensures { λ r. ⌜ r ≡ eqb (a + b + c) total ⌝ }
-{
-    if (total < a) | (total < b) | (total < c) {
-        return false;
-    }
-    a + b + c == total
-}
 
 // The sum of the cells, or one above `most` where it is above that.
 fn cells_sum(cells: [u64; 40], most: u64) -> u64
@@ -81,6 +72,10 @@ fn is_unsound(t: Table) -> bool
     if !sags_add_up(cells, t.unplaced, t.sags) {
         return true;
     }
+    let parts = t.parts;
+    if !adds_up(t.shortfall, parts.a, parts.b, parts.c) {
+        return true;
+    }
     3 * full_of(s) * t.total < t.shortfall
 }
 
@@ -114,6 +109,7 @@ fn merge(t: Table, u: Table) -> Table
         interruptions: t.interruptions + u.interruptions,
         swells: t.swells + u.swells,
         shortfall: t.shortfall + u.shortfall,
+        parts: add_sums(t.parts, u.parts),
     }
 }
 

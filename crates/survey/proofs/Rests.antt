@@ -20,11 +20,12 @@ use Rattle.rules.proofs.Booleans.{neither}
 use Rattle.kinds.specs.Machine.{opens}
 use Rattle.kinds.proofs.Machine.{inside-is, opens-closed, opens-out}
 use Rattle.quiet.specs.Quiet.{Resting}
-use Rattle.survey.specs.declared.Track.{Track}
-use Rattle.survey.specs.declared.Classes.{Classes}
-use Rattle.survey.specs.declared.Survey.{Survey}
-use Rattle.survey.specs.Pass.{goingOn, passedOver, trackAt, classesAt, startsAt, landed, landedAt, seenBoth, shortfallFrom, cellsAt, surveyAt}
-use Rattle.survey.proofs.Gains.{cells-same}
+use Rattle.ledger.specs.declared.Track.{Track}
+use Rattle.ledger.specs.declared.Classes.{Classes}
+use Rattle.ledger.specs.declared.Survey.{Survey}
+use Rattle.ledger.specs.Entries.{goingOn, passedOver}
+use Rattle.ledger.specs.State.{trackAt, classesAt, startsAt, landed, landedAt, seenBoth, partFrom, cellsAt, surveyAt}
+use Rattle.ledger.proofs.Gains.{cells-same}
 
 or-true : (b : Bool) → b || true ≡ true
 or-true true = refl
@@ -102,7 +103,9 @@ module _ (s : Settings) (h : ℕ → Half) (n : ℕ) where
           over-classes,
           over-starts,
           over-landed (λ a. bit (not (seenBoth s h n a))),
-          over-landed (λ a. shortfallFrom s h n a),
+          over-landed (partFrom s h n 0),
+          over-landed (partFrom s h n 1),
+          over-landed (partFrom s h n 2),
         )
 
     over-cells : cellsAt s h n k ≡ cellsAt s h n (suc k)

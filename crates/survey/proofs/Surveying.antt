@@ -24,9 +24,11 @@ use Rattle.halves.proofs.Steps.{step-addable, ranged-step}
 use Rattle.kinds.specs.declared.Thresholds.{Thresholds}
 use Rattle.quiet.specs.Quiet.{quietTill, Resting}
 use Rattle.quiet.proofs.Stretches.{half-here, stop-low, stop-high, calm-rests, calm-ranged}
-use Rattle.survey.specs.declared.Survey.{Survey}
-use Rattle.survey.specs.Pass.{goingOn, passedOver, surveyedBy, cellsTurned, Turnable, Surveying, SurveyedTo, cellsAt, surveyAt}
-use Rattle.survey.proofs.Passes.{classes-few, parts, turnable, turn-made, turn-cells}
+use Rattle.ledger.specs.declared.Survey.{Survey}
+use Rattle.ledger.specs.Entries.{goingOn, passedOver, surveyedBy, cellsTurned, Turnable}
+use Rattle.ledger.specs.State.{cellsAt, surveyAt}
+use Rattle.survey.specs.Pass.{Surveying, SurveyedTo}
+use Rattle.ledger.proofs.Passes.{classes-few, parts, turnable, turn-made, turn-cells}
 use Rattle.survey.proofs.Rests.{nothing-open, over-survey, over-all-cells}
 
 module _ {s : Settings} {xs : List ℤ} {m : Thresholds} {halves : ℕ} {p : Survey} {first : Half} {from : ℕ} {cs : List ℕ} (v : Surveying s xs m halves p first from cs)

@@ -22,13 +22,15 @@ use Rattle.checks.specs.Flags.{shapeCheck, allInRange, RangedBelow, asRead}
 use Rattle.checks.proofs.Reading.{by-range, range-good, range-bad, ranged-all, read-itself, read-halves, read-taken}
 use Rattle.halves.specs.Steps.{stepAt, stepRun}
 use Rattle.halves.proofs.Steps.{step-fits, steps-all, ranged-next, step-bad}
-use Rattle.kinds.specs.Machine.{thresholdsOf}
+use Rattle.kinds.specs.Machine.{thresholdsOf, Light}
 use Rattle.kinds.specs.declared.Thresholds.{Thresholds}
-use Rattle.survey.specs.declared.Landed.{Landed}
-use Rattle.survey.specs.declared.Survey.{Survey}
+use Rattle.ledger.specs.declared.Landed.{Landed}
+use Rattle.ledger.specs.declared.Survey.{Survey}
 use Rattle.survey.specs.declared.Surveyed.{Surveyed}
-use Rattle.survey.specs.Pass.{landedBy, cellsBy, Landable, Surveying, SurveyedTo, cellsAt, surveyAt, startSurvey, turnedAway, takenWith, tabled}
-use Rattle.survey.proofs.Passes.{at-start, cells-start, ask-last, table-made}
+use Rattle.ledger.specs.Entries.{landedBy, cellsBy, Landable, startSurvey}
+use Rattle.ledger.specs.State.{cellsAt, surveyAt}
+use Rattle.survey.specs.Pass.{Surveying, SurveyedTo, turnedAway, takenWith, tabled}
+use Rattle.ledger.proofs.Passes.{at-start, cells-start, ask-last, light-last, table-made}
 
 -- before half-cycle k: the survey, the cells and the step are those of k, and all samples up to that step are in range
 pub record Reached (s : Settings) (xs : List ℤ) (k : ℕ) (p : Survey) (step : Half) (cs : List ℕ) : Type 0 where
@@ -120,6 +122,9 @@ module _ (s : Settings) (xs : List ℤ) (good-settings : settingsGood s ≡ true
     taken : (t : Table) → t ≡ grown (empty s) (asRead xs) → _≡_ {A = Handed} (record { answer = Accepted; table = t }) (tabled s xs)
     unfolding tabled
     taken t e = rw (e, read-itself xs whole, by-range s xs shaped, range-good xs whole)
+
+    pub ask-taken : (d : Landed) → d ≡ landedBy (p .landed) (p .track .sag .inside) (p .track .sag) false → Light (d .parts)
+    ask-taken d e = light-last s (asRead xs) good-settings (read-taken s xs shaped) halves k p cs counted (done ∙ counted) (r .state) (r .cells-are) d e
 
     pub end-made : (d : Landed) (cs′ : List ℕ) → d ≡ landedBy (p .landed) (p .track .sag .inside) (p .track .sag) false
         → cs′ ≡ cellsBy s (p .track .sag .inside) (p .track .sag) halves false cs → takenWith s halves p d cs′ ≡ tabled s xs

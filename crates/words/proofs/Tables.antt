@@ -1,4 +1,4 @@
--- A table and its 56 numbers are the same thing: each way back gives what was there. So a refused adding leaves the lent numbers
+-- A table and its 59 numbers are the same thing: each way back gives what was there. So a refused adding leaves the lent numbers
 -- as they were, and a host that keeps a table's numbers keeps the table.
 use Prim.Native.Nat.{ℕ, zero, suc, _+_, _≤_}
 use mathlib.Core.Path.{_≡_, refl, sym, ap, ap₂, _∙_}
@@ -24,13 +24,13 @@ read-part : (w : List ℕ) (i n : ℕ) → i + n ≤ length w → read w i n ≡
 read-part w i zero h = refl
 read-part w i (suc n) h = rw (drop-cons w i 0 (omega arith)) (ap (λ (l : List ℕ). getD w i 0 ∷ l) (read-part w (suc i) n (omega arith)))
 
--- 56 numbers, as a table and back
-pub words-back : (w : List ℕ) → length w ≡ 56 → tableWords (tableFrom w) ≡ w
+-- 59 numbers, as a table and back
+pub words-back : (w : List ℕ) → length w ≡ 59 → tableWords (tableFrom w) ≡ w
 unfolding tableWords tableFrom
 words-back w h =
     let head = read-part w 0 11 (omega arith) in
-    let short : length (drop 51 w) ≤ 5 = rw length-drop (omega arith) in
-    let tail = read-part w 51 5 (omega arith) ∙ take-all 5 (drop 51 w) short in
+    let short : length (drop 51 w) ≤ 8 = rw length-drop (omega arith) in
+    let tail = read-part w 51 8 (omega arith) ∙ take-all 8 (drop 51 w) short in
     ap₂ (λ (a b : List ℕ). a ++ take 40 (drop 11 w) ++ b) head tail ∙ ap (λ (l : List ℕ). l ++ drop 51 w) (sym (take-add 11 40 w)) ∙ take-append-drop 51 w
 
 -- a table of forty cells, as numbers and back
@@ -38,7 +38,7 @@ pub table-back : (t : Table) → length (t .cells) ≡ 40 → tableFrom (tableWo
 unfolding tableWords tableFrom
 table-back t h =
     let after : (j : ℕ) → getD (t .cells ++ tailOf t) (40 + j) 0 ≡ getD (tailOf t) j 0 = λ j. rw h at (getD-append-add (t .cells) (tailOf t) j 0) in
-    rw (take-at (t .cells) (tailOf t) 40 h, after 0, after 1, after 2, after 3, after 4)
+    rw (take-at (t .cells) (tailOf t) 40 h, after 0, after 1, after 2, after 3, after 4, after 5, after 6, after 7)
 
 -- the settings are its first seven numbers
 pub settings-first : (t : Table)
@@ -46,12 +46,12 @@ pub settings-first : (t : Table)
 unfolding tableWords
 settings-first t = refl
 
--- a refused adding leaves all 56 numbers
-pub refused-leaves : (w : List ℕ) (xs : List ℤ) (r : Refusal) → length w ≡ 56 → added (tableFrom w) xs .answer ≡ Refused r → tableWords (added (tableFrom w) xs .table) ≡ w
+-- a refused adding leaves all 59 numbers
+pub refused-leaves : (w : List ℕ) (xs : List ℤ) (r : Refusal) → length w ≡ 59 → added (tableFrom w) xs .answer ≡ Refused r → tableWords (added (tableFrom w) xs .table) ≡ w
 unfolding added
 refused-leaves w xs r h e = rw e (words-back w h)
 
--- a refused making gives 56 zeros
-pub refused-zeros : (s : Settings) (r : Refusal) → freshened s .answer ≡ Refused r → tableWords (freshened s .table) ≡ replicate 56 0
+-- a refused making gives 59 zeros
+pub refused-zeros : (s : Settings) (r : Refusal) → freshened s .answer ≡ Refused r → tableWords (freshened s .table) ≡ replicate 59 0
 unfolding freshened tableWords
 refused-zeros s r e = rw e

@@ -11,7 +11,7 @@ use Rattle.rules.specs.Halves.{halvesOf, anyMissing, squares, sumsAt, halfAt, f
 use Rattle.rules.specs.Events.{carries, inRun, inEvent, starts, endOf, seenOf, extremeOf, earliest, climb, retainedOf, shortsOf, sixSums, typeOf}
 use Rattle.rules.specs.EventList.{eventFrom, eventAt, eventsOf}
 use Rattle.rules.specs.Scores.{inBounds, sagGood, isEvent, reasonOf, scoring, reasonNumber}
-use Rattle.rules.specs.Site.{rowOf, columnOf, cellOf, isHealthy, isDisturbed, isUnknown, isPlaced, isUnplaced, sagCell, sagShortfalls, grown, empty, zeroSettings, isUnsound}
+use Rattle.rules.specs.Site.{rowOf, columnOf, cellOf, isHealthy, isDisturbed, isUnknown, isPlaced, isUnplaced, sagCell, sagSum, grown, empty, zeroSettings, isUnsound}
 use Rattle.rules.specs.Refusals.{recordingCheck, settingsCheck, roomCheck, listCheck, listed, written, freshened, soundCheck, fullCheck, addCheck, added}
 use Rattle.rules.specs.Known.{dip}
 use Rattle.rules.specs.declared.Settings.{Settings}
@@ -62,7 +62,7 @@ record Tables : Type 0 where
   place : ℕ
   table : List ℕ
 
--- `burr_fresh`, and `burr_add` to 56 lent numbers
+-- `burr_fresh`, and `burr_add` to 59 lent numbers
 freshOf : Settings → Tables
 freshOf s =
     record {
@@ -95,21 +95,21 @@ k2 = dip 500
 abbrev spoilt : List ℤ
 spoilt = set k2 5 (pos 100001)
 
--- a fresh table's 56 numbers, and those after K2: the settings; 5 half-cycles, 2 healthy, 3 disturbed, 0 unknown; one sag in cell 17;
--- unplaced, sags, interruptions, swells, shortfall
+-- a fresh table's 59 numbers, and those after K2: the settings; 5 half-cycles, 2 healthy, 3 disturbed, 0 unknown; one sag in cell 17;
+-- unplaced, sags, interruptions, swells, shortfall, and that of each channel
 abbrev fresh : List ℕ
-fresh = 8 ∷ 1000 ∷ 50 ∷ 90 ∷ 10 ∷ 110 ∷ 2 ∷ replicate 49 0
+fresh = 8 ∷ 1000 ∷ 50 ∷ 90 ∷ 10 ∷ 110 ∷ 2 ∷ replicate 52 0
 
 abbrev afterK2 : List ℕ
 afterK2 =
-    (8 ∷ 1000 ∷ 50 ∷ 90 ∷ 10 ∷ 110 ∷ 2 ∷ 5 ∷ 2 ∷ 3 ∷ 0 ∷ set (replicate 40 0) 17 1) ++ 0 ∷ 1 ∷ 0 ∷ 0 ∷ 36000000 ∷ []
+    (8 ∷ 1000 ∷ 50 ∷ 90 ∷ 10 ∷ 110 ∷ 2 ∷ 5 ∷ 2 ∷ 3 ∷ 0 ∷ set (replicate 40 0) 17 1) ++ 0 ∷ 1 ∷ 0 ∷ 0 ∷ 36000000 ∷ 12000000 ∷ 12000000 ∷ 12000000 ∷ []
 
 -- n numbers, one after the other
 abbrev from : ℕ → ℕ → List ℕ
 from i zero = []
 from i (suc n) = i ∷ from (suc i) n
 
--- a table with another number in each place, from 1 to 56
+-- a table with another number in each place, from 1 to 59
 abbrev counting : Table
 counting =
     record {
@@ -124,6 +124,7 @@ counting =
       interruptions = 54;
       swells = 55;
       shortfall = 56;
+      parts = record { a = 57; b = 58; c = 59 };
     }
 
 record Answers : Type 0 where
@@ -133,28 +134,28 @@ record Answers : Type 0 where
   words : List ℕ
   table : Table
 
--- `table` is what the fresh table's numbers stand for, `zeros` what 56 zeros do
+-- `table` is what the fresh table's numbers stand for, `zeros` what 59 zeros do
 askedOf : (table zeros : Table) → Answers
 askedOf table zeros =
     record {
       -- K2's sag; the same with its start unseen; with end and start in each other's place; under bad settings
       scored =
-          scoresOf good (eventWith 1 1 4 3 2000000 500 36000000 0)
-          ∷ scoresOf good (eventWith 1 1 4 2 2000000 500 36000000 0)
-          ∷ scoresOf good (eventWith 1 4 1 3 2000000 500 36000000 0)
-          ∷ scoresOf bad (eventWith 1 1 4 3 2000000 500 36000000 0)
+          scoresOf good (eventWith 1 1 4 3 2000000 500 36000000 0 12000000 12000000 12000000)
+          ∷ scoresOf good (eventWith 1 1 4 2 2000000 500 36000000 0 12000000 12000000 12000000)
+          ∷ scoresOf good (eventWith 1 4 1 3 2000000 500 36000000 0 12000000 12000000 12000000)
+          ∷ scoresOf bad (eventWith 1 1 4 3 2000000 500 36000000 0 12000000 12000000 12000000)
           ∷ [];
-      -- K2 into a run of nine and one of seven; a sample out of range; bad settings
+      -- K2 into a run of twelve and one of ten; a sample out of range; bad settings
       lists =
-          listsOf good k2 (replicate 9 9)
-          ∷ listsOf good k2 (replicate 7 9)
-          ∷ listsOf good spoilt (replicate 9 9)
-          ∷ listsOf bad k2 (replicate 9 9)
+          listsOf good k2 (replicate 12 9)
+          ∷ listsOf good k2 (replicate 10 9)
+          ∷ listsOf good spoilt (replicate 12 9)
+          ∷ listsOf bad k2 (replicate 12 9)
           ∷ [];
       -- a making, and one that is refused; K2 and a sample out of range offered to a fresh table, K2 to zeros
       tables = freshOf good ∷ freshOf bad ∷ addsTo table k2 ∷ addsTo table spoilt ∷ addsTo zeros k2 ∷ [];
       words = tableWords counting;
-      table = tableFrom (from 1 56);
+      table = tableFrom (from 1 59);
     }
 
 answers : Answers
@@ -174,19 +175,19 @@ answers =
           ∷ unscored 6
           ∷ [];
       lists =
-          record { number = 0; answer = 1; events = 1 ∷ 1 ∷ 4 ∷ 3 ∷ 2000000 ∷ 500 ∷ 36000000 ∷ 0 ∷ 9 ∷ [] }
-          ∷ record { number = 7; answer = 1; events = replicate 7 9 }
-          ∷ record { number = 6; answer = 5; events = replicate 9 9 }
-          ∷ record { number = 1; answer = 3; events = replicate 9 9 }
+          record { number = 0; answer = 1; events = 1 ∷ 1 ∷ 4 ∷ 3 ∷ 2000000 ∷ 500 ∷ 36000000 ∷ 0 ∷ 12000000 ∷ 12000000 ∷ 12000000 ∷ 9 ∷ [] }
+          ∷ record { number = 7; answer = 1; events = replicate 10 9 }
+          ∷ record { number = 6; answer = 5; events = replicate 12 9 }
+          ∷ record { number = 1; answer = 3; events = replicate 12 9 }
           ∷ [];
       tables =
           record { number = 0; place = 0; table = fresh }
-          ∷ record { number = 1; place = 3; table = replicate 56 0 }
+          ∷ record { number = 1; place = 3; table = replicate 59 0 }
           ∷ record { number = 0; place = 0; table = afterK2 }
           ∷ record { number = 6; place = 5; table = fresh }
-          ∷ record { number = 9; place = 0; table = replicate 56 0 }
+          ∷ record { number = 9; place = 0; table = replicate 59 0 }
           ∷ [];
-      words = from 1 56;
+      words = from 1 59;
       table = counting;
     }
   where
@@ -202,16 +203,16 @@ answers =
 
 -- computed of the two tables as the rules make them, then said of their numbers
 computed : askedOf (empty good) (empty zeroSettings) ≡ answers
-unfolding askedOf answers scoresOf listsOf freshOf addsTo tableWords tableFrom firstBad badSetting settingsGood halvesOf anyMissing squares sumsAt halfAt full carries inRun inEvent starts endOf seenOf extremeOf earliest climb retainedOf shortsOf sixSums typeOf eventFrom eventAt eventsOf inBounds sagGood isEvent reasonOf scoring rowOf columnOf cellOf isHealthy isDisturbed isUnknown isPlaced isUnplaced sagCell sagShortfalls grown isUnsound recordingCheck settingsCheck roomCheck listCheck listed written freshened soundCheck fullCheck addCheck added div ofInt ofBits
+unfolding askedOf answers scoresOf listsOf freshOf addsTo tableWords tableFrom firstBad badSetting settingsGood halvesOf anyMissing squares sumsAt halfAt full carries inRun inEvent starts endOf seenOf extremeOf earliest climb retainedOf shortsOf sixSums typeOf eventFrom eventAt eventsOf inBounds sagGood isEvent reasonOf scoring rowOf columnOf cellOf isHealthy isDisturbed isUnknown isPlaced isUnplaced sagCell sagSum grown isUnsound recordingCheck settingsCheck roomCheck listCheck listed written freshened soundCheck fullCheck addCheck added div ofInt ofBits
 computed = refl
 
 fresh-is : tableFrom fresh ≡ empty good
 unfolding tableFrom
 fresh-is = refl
 
-zeros-are : tableFrom (replicate 56 0) ≡ empty zeroSettings
+zeros-are : tableFrom (replicate 59 0) ≡ empty zeroSettings
 unfolding tableFrom
 zeros-are = refl
 
-boundary-answers : askedOf (tableFrom fresh) (tableFrom (replicate 56 0)) ≡ answers
+boundary-answers : askedOf (tableFrom fresh) (tableFrom (replicate 59 0)) ≡ answers
 boundary-answers = ap₂ askedOf fresh-is zeros-are ∙ computed

@@ -11,7 +11,7 @@ use Rattle.rules.specs.declared.Taken.the-variants.{Accepted, Refused}
 use Rattle.rules.specs.declared.Listed.{Listed}
 use Rattle.rules.specs.declared.Listed.the-variants.{Events, Turned}
 
--- seven numbers as settings, eight as an event
+-- seven numbers as settings, eleven as an event
 abbrev pub settingsFrom : (n r f sag interruption swell hysteresis : ℕ) → Settings
 settingsFrom n r f sag interruption swell hysteresis =
     record {
@@ -24,8 +24,8 @@ settingsFrom n r f sag interruption swell hysteresis =
       hysteresis = hysteresis;
     }
 
-abbrev pub eventWith : (kind start end seen extreme retained shortfall class : ℕ) → Event
-eventWith kind start end seen extreme retained shortfall class =
+abbrev pub eventWith : (kind start end seen extreme retained shortfall class a b c : ℕ) → Event
+eventWith kind start end seen extreme retained shortfall class a b c =
     record {
       kind = kind;
       start = start;
@@ -35,6 +35,7 @@ eventWith kind start end seen extreme retained shortfall class =
       retained = retained;
       shortfall = shortfall;
       class = class;
+      parts = record { a = a; b = b; c = c };
     }
 
 -- what the two lent floats hold after a score, and what they held where there is none

@@ -1,5 +1,5 @@
--- A site table as 56 numbers: seven settings, total, healthy, disturbed, unknown, forty cells, unplaced, sags, interruptions,
--- swells, shortfall.
+-- A site table as 59 numbers: seven settings, total, healthy, disturbed, unknown, forty cells, unplaced, sags, interruptions,
+-- swells, shortfall, and the shortfalls of a, b and c.
 use Prim.Native.Nat.{ℕ}
 use mathlib.Core.List.{List, [], _∷_, _++_}
 use lib.ListN.{getD, take, drop}
@@ -14,13 +14,14 @@ headOf t =
     s .n ∷ s .r ∷ s .f ∷ s .sag ∷ s .interruption ∷ s .swell ∷ s .hysteresis ∷ t .total ∷ t .healthy ∷ t .disturbed ∷ t .unknown ∷ []
 
 abbrev pub tailOf : Table → List ℕ
-tailOf t = t .unplaced ∷ t .sags ∷ t .interruptions ∷ t .swells ∷ t .shortfall ∷ []
+tailOf t =
+    t .unplaced ∷ t .sags ∷ t .interruptions ∷ t .swells ∷ t .shortfall ∷ t .parts .a ∷ t .parts .b ∷ t .parts .c ∷ []
 
 -- a table's numbers
 unfoldable pub tableWords : Table → List ℕ
 tableWords t = headOf t ++ t .cells ++ tailOf t
 
--- the table that 56 numbers are
+-- the table that 59 numbers are
 unfoldable pub tableFrom : List ℕ → Table
 tableFrom w =
     let at : ℕ → ℕ = λ i. getD w i 0 in
@@ -36,4 +37,5 @@ tableFrom w =
       interruptions = at 53;
       swells = at 54;
       shortfall = at 55;
+      parts = record { a = at 56; b = at 57; c = at 58 };
     }

@@ -1,9 +1,10 @@
-// The numbers of the boundary: settings are seven, an event eight, a site table 56, in the order of the rules; an answer is its
+// The numbers of the boundary: settings are seven, an event eleven, a site table 59, in the order of the rules; an answer is its
 // number and its place.
 use numbers::copy;
 use rules::Event;
 use rules::Refusal;
 use rules::Settings;
+use rules::Sums;
 use rules::Table;
 use rules::Taken;
 ghost use mathlib.Core.Path.{_≡_};
@@ -34,7 +35,7 @@ pub fn settings(
     }
 }
 
-// Eight numbers as an event.
+// Eleven numbers as an event.
 pub fn event(
     kind: u64,
     start: u64,
@@ -44,8 +45,11 @@ pub fn event(
     retained: u64,
     shortfall: u64,
     class: u64,
+    a: u64,
+    b: u64,
+    c: u64,
 ) -> Event
-    ensures { λ x. ⌜ x ≡ eventWith kind start end seen extreme retained shortfall class ⌝ }
+    ensures { λ x. ⌜ x ≡ eventWith kind start end seen extreme retained shortfall class a b c ⌝ }
 {
     Event {
         kind,
@@ -56,6 +60,7 @@ pub fn event(
         retained,
         shortfall,
         class,
+        parts: Sums { a, b, c },
     }
 }
 
@@ -93,8 +98,8 @@ pub fn place_in(refusal: Refusal) -> u64
     }
 }
 
-// The table that 56 numbers are.
-pub fn table_of(words: [u64; 56]) -> Table
+// The table that 59 numbers are.
+pub fn table_of(words: [u64; 59]) -> Table
     ensures { λ x. ⌜ x ≡ tableFrom words ⌝ }
 {
     let settings = settings(
@@ -120,11 +125,16 @@ pub fn table_of(words: [u64; 56]) -> Table
         interruptions: words[53],
         swells: words[54],
         shortfall: words[55],
+        parts: Sums {
+            a: words[56],
+            b: words[57],
+            c: words[58],
+        },
     }
 }
 
-// A table's 56 numbers.
-pub fn words_of(t: Table) -> [u64; 56]
+// A table's 59 numbers.
+pub fn words_of(t: Table) -> [u64; 59]
     ensures { λ x. ⌜ x ≡ tableWords t ⌝ }
 {
     let s = t.settings;
@@ -142,8 +152,18 @@ pub fn words_of(t: Table) -> [u64; 56]
         t.disturbed,
         t.unknown,
     ];
-    let tail = [t.unplaced, t.sags, t.interruptions, t.swells, t.shortfall];
-    let mut w = [0; 56];
+    let parts = t.parts;
+    let tail = [
+        t.unplaced,
+        t.sags,
+        t.interruptions,
+        t.swells,
+        t.shortfall,
+        parts.a,
+        parts.b,
+        parts.c,
+    ];
+    let mut w = [0; 59];
     copy(&head, &mut w, 0);
     copy(&tail, &mut w, 51);
     copy(&cells, &mut w, 11);

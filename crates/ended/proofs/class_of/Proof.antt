@@ -1,7 +1,7 @@
 -- A sag has the type of the half-cycle, and each other arm is the case of its kind. Assumes nothing.
 use borrow.Author.Needs.{needs}
-use Rattle.list.proofs.class_of.Statement.{statement}
-use Rattle.list.proofs.class_of.Tie as tie
+use Rattle.ended.proofs.class_of.Statement.{statement}
+use Rattle.ended.proofs.class_of.Tie as tie
 
 enum-told : tie.Need-enum-told
 enum-told c = search needs

@@ -4,8 +4,8 @@ use lib.Seq.{sets-eq}
 use Rattle.rules.specs.EventList.{wordsOf}
 use denote.Ref.{now}
 use borrow.Author.Needs.{needs}
-use Rattle.list.proofs.put.Statement.{statement}
-use Rattle.list.proofs.put.Tie as tie
+use Rattle.ended.proofs.put.Statement.{statement}
+use Rattle.ended.proofs.put.Tie as tie
 
 slice-aggregate-copy : tie.Need-slice-aggregate-copy
 slice-aggregate-copy c = search needs
@@ -19,7 +19,7 @@ same-length c = search needs
 returns : tie.Need-returns
 returns c =
     let copied = c .before .before in
-    let a = copied .before .before .before .before in
+    let a = copied .before .before .before .before .before in
     copied .copy .ensures ∙ sym (sets-eq (wordsOf (a .args .e)) (now (a .args .out)) (a .args .at) (a .pre))
 
 pub put-spec : {M : Type 1} → statement M

@@ -1,6 +1,6 @@
 -- Each return is one of the four cases. Assumes nothing.
-use Rattle.list.proofs.seen_number.Statement.{statement}
-use Rattle.list.proofs.seen_number.Tie as tie
+use Rattle.ended.proofs.seen_number.Statement.{statement}
+use Rattle.ended.proofs.seen_number.Tie as tie
 
 returns : tie.Need-returns
 returns c = rw (c .before .if1 .taken, c .if2 .taken)

@@ -1,21 +1,18 @@
--- `survey::shortfall_by` meets its contract. Three shortfalls that can be added, or nothing.
--- Assumes nothing.
+-- `ledger::add_parts` meets its contract. Each channel gets what it lacked, or nothing. Assumes nothing.
+use mathlib.Core.Path.{_∙_}
+use native.Mathlib.Nat.{add-zero}
 use native.Mathlib.Omega.{arith}
-use borrow.Author.Needs.{needs}
-use Rattle.survey.proofs.shortfall_by.Statement.{statement}
-use Rattle.survey.proofs.shortfall_by.Tie as tie
+use Rattle.ledger.proofs.add_parts.Statement.{statement}
+use Rattle.ledger.proofs.add_parts.Tie as tie
 
-add-result : tie.Need-add-result
-add-result c = search needs
-
-add-result-2 : tie.Need-add-result-2
-add-result-2 c = search needs
+add-sums-requires : tie.Need-add-sums-requires
+add-sums-requires c κs = let p = c .before .pre in (omega (arith, p), omega (arith, p), omega (arith, p))
 
 returns : tie.Need-returns
-returns c = (rw (c .before .before .if1 .taken), omega (arith, c .before .before .before .pre))
+returns c = c .add-sums .ensures ∙ rw (c .before .if1 .taken)
 
 returns-2 : tie.Need-returns-2
-returns-2 c = search needs
+returns-2 c = rw (c .if1 .left) (simp add-zero)
 
-pub shortfall-by-spec : {M : Type 1} → statement M
-shortfall-by-spec = tie.close (tie.spec add-result add-result-2 returns returns-2)
+pub add-parts-spec : {M : Type 1} → statement M
+add-parts-spec = tie.close (tie.spec add-sums-requires returns returns-2)

@@ -1,10 +1,10 @@
--- `survey::bump` meets its contract. One more where it holds, and the same where it does not.
+-- `ledger::bump` meets its contract. One more where it holds, and the same where it does not.
 -- Assumes nothing.
 use native.Mathlib.Nat.{add-zero}
 use mathlib.Core.Path.{sym}
 use borrow.Author.Needs.{needs}
-use Rattle.survey.proofs.bump.Statement.{statement}
-use Rattle.survey.proofs.bump.Tie as tie
+use Rattle.ledger.proofs.bump.Statement.{statement}
+use Rattle.ledger.proofs.bump.Tie as tie
 
 add-result : tie.Need-add-result
 add-result c = search needs

@@ -1,8 +1,8 @@
--- `survey::classify` meets its contract. Three counts, each with its own test.
+-- `ledger::classify` meets its contract. Three counts, each with its own test.
 -- Assumes nothing.
 use borrow.Author.Needs.{needs}
-use Rattle.survey.proofs.classify.Statement.{statement}
-use Rattle.survey.proofs.classify.Tie as tie
+use Rattle.ledger.proofs.classify.Statement.{statement}
+use Rattle.ledger.proofs.classify.Tie as tie
 
 bump-requires : tie.Need-bump-requires
 bump-requires c κs = search needs

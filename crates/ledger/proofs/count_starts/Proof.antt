@@ -1,8 +1,8 @@
--- `survey::count_starts` meets its contract. Three counts, each with its own test.
+-- `ledger::count_starts` meets its contract. Three counts, each with its own test.
 -- Assumes nothing.
 use borrow.Author.Needs.{needs}
-use Rattle.survey.proofs.count_starts.Statement.{statement}
-use Rattle.survey.proofs.count_starts.Tie as tie
+use Rattle.ledger.proofs.count_starts.Statement.{statement}
+use Rattle.ledger.proofs.count_starts.Tie as tie
 
 bump-requires : tie.Need-bump-requires
 bump-requires c κs = search needs

@@ -1,9 +1,9 @@
--- `survey::follow` meets its contract. The step of the sag and the tests of the other two kinds are the definition's.
+-- `ledger::follow` meets its contract. The step of the sag and the tests of the other two kinds are the definition's.
 -- Assumes nothing.
-use Rattle.survey.specs.Pass.{trackedBy}
+use Rattle.ledger.specs.Entries.{trackedBy}
 use borrow.Author.Needs.{needs}
-use Rattle.survey.proofs.follow.Statement.{statement}
-use Rattle.survey.proofs.follow.Tie as tie
+use Rattle.ledger.proofs.follow.Statement.{statement}
+use Rattle.ledger.proofs.follow.Tie as tie
 
 step-requires : tie.Need-step-requires
 step-requires c κs = search needs

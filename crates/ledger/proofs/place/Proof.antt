@@ -1,4 +1,4 @@
--- `survey::place` meets its contract. The cell lies within the forty, and a count can grow by one.
+-- `ledger::place` meets its contract. The cell lies within the forty, and a count can grow by one.
 -- Assumes nothing.
 use Prim.Native.Nat.{_<_}
 use mathlib.Core.Path.{_≡_}
@@ -6,8 +6,8 @@ use mathlib.Core.Bool.{true}
 use native.Mathlib.Omega.{arith}
 use Rattle.rules.proofs.Booleans.{both}
 use Rattle.rules.proofs.Borders.{cell-high}
-use Rattle.survey.proofs.place.Statement.{statement}
-use Rattle.survey.proofs.place.Tie as tie
+use Rattle.ledger.proofs.place.Statement.{statement}
+use Rattle.ledger.proofs.place.Tie as tie
 
 ended : (c : tie.Then1) → c .before .before .args .ends ≡ true
 ended c = both _ _ (c .if1 .taken) .0

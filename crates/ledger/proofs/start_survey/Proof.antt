@@ -1,8 +1,8 @@
--- `survey::start_survey` meets its contract. The code is the definition.
+-- `ledger::start_survey` meets its contract. The code is the definition.
 -- Assumes nothing.
 use borrow.Author.Needs.{needs}
-use Rattle.survey.proofs.start_survey.Statement.{statement}
-use Rattle.survey.proofs.start_survey.Tie as tie
+use Rattle.ledger.proofs.start_survey.Statement.{statement}
+use Rattle.ledger.proofs.start_survey.Tie as tie
 
 none-requires : tie.Need-none-requires
 none-requires c κs = search needs

@@ -8,15 +8,15 @@ use Rattle.rules.specs.declared.Half.{Half}
 use Rattle.kinds.specs.declared.Thresholds.{Thresholds}
 use Rattle.kinds.specs.declared.Level.{Level}
 use Rattle.kinds.specs.Machine.{levelFrom, Light}
-use Rattle.survey.specs.declared.Track.{Track}
-use Rattle.survey.specs.declared.Classes.{Classes}
-use Rattle.survey.specs.declared.Starts.{Starts}
-use Rattle.survey.specs.declared.Landed.{Landed}
-use Rattle.survey.specs.declared.Survey.{Survey}
-use Rattle.survey.specs.Pass.{trackedBy, goingOn, classedBy, startedBy, landedBy, cellsBy, surveyedBy, cellsTurned, Landable, Turnable}
+use Rattle.ledger.specs.declared.Track.{Track}
+use Rattle.ledger.specs.declared.Classes.{Classes}
+use Rattle.ledger.specs.declared.Starts.{Starts}
+use Rattle.ledger.specs.declared.Landed.{Landed}
+use Rattle.ledger.specs.declared.Survey.{Survey}
+use Rattle.ledger.specs.Entries.{trackedBy, goingOn, classedBy, startedBy, landedBy, cellsBy, surveyedBy, cellsTurned, Landable, Turnable}
 use borrow.Author.Needs.{needs}
-use Rattle.survey.proofs.survey_turn.Statement.{statement}
-use Rattle.survey.proofs.survey_turn.Tie as tie
+use Rattle.ledger.proofs.survey_turn.Statement.{statement}
+use Rattle.ledger.proofs.survey_turn.Tie as tie
 
 module _ (m : Thresholds) (v : Half) (p : Survey) (k : ℕ) (l : Level) (l-is : l ≡ levelFrom (m .full) (m .sag .from) v) where
   ask-follow : (s : Settings) (cs : List ℕ) → Turnable s m v p k cs → Light (p .track .sag .short) × Light (l .short)

@@ -28,7 +28,7 @@ told : (c : tie.After-known-told)
 told c = counted _ _ _ (count c .count-events .ensures .0) _ (c .before .counted .given .1)
 
 -- past the test there is room for all events
-enough : (c : tie.Else1) → total (c .before) ≤ length (now (start (count (c .before)) .args .out)) / 8
+enough : (c : tie.Else1) → total (c .before) ≤ length (now (start (count (c .before)) .args .out)) / 11
 enough c = omega (arith, c .if1 .left)
 
 count-halves-requires : tie.Need-count-halves-requires
@@ -57,7 +57,7 @@ returns-2 : tie.Need-returns-2
 returns-2 c =
     let k = c .before in
     let s = start (count k) in
-    let short : length (now (s .args .out)) / 8 < total k = omega (arith, c .if1 .taken) in
+    let short : length (now (s .args .out)) / 11 < total k = omega (arith, c .if1 .taken) in
     let t = told k in
     (list-no _ _ (s .pre .0) (t .0) _ (t .1) _ short, run-no _ _ (s .pre .0) (t .0) _ (t .1) _ short)
 

@@ -21,7 +21,7 @@ stepped c = c .before .before .before
 was : (c : tie.Then1) → start (stepped c) .args .p .event .inside ≡ true
 was c = was-inside (start (stepped c) .pre) (stepped c .step .ensures) (c .if1 .taken)
 
-slot : (c : tie.Then1) → let a = start (stepped c) .args in 8 * a .p .slot + 8 ≤ length (now (a .out))
+slot : (c : tie.Then1) → let a = start (stepped c) .args in 11 * a .p .slot + 11 ≤ length (now (a .out))
 slot c = start (stepped c) .pre .ready .slot (was c)
 
 step-requires : tie.Need-step-requires

@@ -7,9 +7,10 @@ use native.Mathlib.Omega.{arith}
 use borrow.Author.Tests.{not-true, not-false}
 use lib.Dec.{eqb}
 use Rattle.rules.specs.Recorder.{settingsGood}
+use Rattle.rules.specs.Events.{makeUp}
 use Rattle.rules.specs.Site.{total}
 use Rattle.rules.proofs.Ranges.{good, full-high}
-use Rattle.site.proofs.Counts.{settings-bad, settings-fine, total-bad, counts-bad, CountsFine, counts-fine, classes-bad, places-bad, product-high, shortfall-tells}
+use Rattle.site.proofs.Counts.{settings-bad, settings-fine, total-bad, counts-bad, CountsFine, counts-fine, classes-bad, places-bad, parts-bad, product-high, shortfall-tells}
 use borrow.Author.Needs.{needs}
 use Rattle.site.proofs.is_unsound.Statement.{statement}
 use Rattle.site.proofs.is_unsound.Tie as tie
@@ -29,6 +30,9 @@ classed c = sym (c .before .adds-up .ensures) ∙ not-false _ (c .if4 .left)
 
 placed : (c : tie.Else5) → let t = c .before .before .before .before .before .before .before .before .before .before .before .before .before .before .args .t in eqb (total (t .cells) + t .unplaced) (t .sags) ≡ true
 placed c = sym (c .before .sags-add-up .ensures) ∙ not-false _ (c .if5 .left)
+
+made-up : (c : tie.Else6) → let t = c .before .before .before .before .before .before .before .before .before .before .before .before .before .before .before .before .before .args .t in makeUp (t .parts) (t .shortfall) ≡ true
+made-up c = sym (c .before .adds-up2 .ensures) ∙ not-false _ (c .if6 .left)
 
 first-bad-setting-requires : tie.Need-first-bad-setting-requires
 first-bad-setting-requires c κs = search needs
@@ -54,17 +58,23 @@ sags-add-up-requires c κs = omega (arith, counted (c .before .before) .sags-hig
 returns-5 : tie.Need-returns-5
 returns-5 c = places-bad (c .before .before .before .before .before .before .before .before .before .before .before .before .before .before .args .t) (sym (c .before .sags-add-up .ensures) ∙ not-true _ (c .if5 .taken))
 
-full-of-requires : tie.Need-full-of-requires
-full-of-requires c κs = fine (c .before .before .before .before .before .before .before .before .before .before)
-
-mul-result : tie.Need-mul-result
-mul-result c = omega (arith, c .full-of .ensures, full-high _ (good _ (fine (c .before .before .before .before .before .before .before .before .before .before .before))))
-
-mul-result-2 : tie.Need-mul-result-2
-mul-result-2 c = rw (c .before .full-of .ensures) (omega (arith, product-high (c .before .before .before .before .before .before .before .before .before .before .before .before .before .before .before .before .args .t) (fine (c .before .before .before .before .before .before .before .before .before .before .before .before)) (few (c .before .before .before .before .before .before .before .before .before .before))))
+adds-up-requires-2 : tie.Need-adds-up-requires-2
+adds-up-requires-2 c κs = search needs
 
 returns-6 : tie.Need-returns-6
-returns-6 c = rw (c .before .before .full-of .ensures) (shortfall-tells (c .before .before .before .before .before .before .before .before .before .before .before .before .before .before .before .before .before .args .t) (fine (c .before .before .before .before .before .before .before .before .before .before .before .before .before)) (few (c .before .before .before .before .before .before .before .before .before .before .before)) (counted (c .before .before .before .before .before .before .before)) (classed (c .before .before .before .before .before)) (placed (c .before .before .before)))
+returns-6 c = parts-bad (c .before .before .before .before .before .before .before .before .before .before .before .before .before .before .before .before .before .args .t) (sym (c .before .adds-up2 .ensures) ∙ not-true _ (c .if6 .taken))
+
+full-of-requires : tie.Need-full-of-requires
+full-of-requires c κs = fine (c .before .before .before .before .before .before .before .before .before .before .before .before .before)
+
+mul-result : tie.Need-mul-result
+mul-result c = omega (arith, c .full-of .ensures, full-high _ (good _ (fine (c .before .before .before .before .before .before .before .before .before .before .before .before .before .before))))
+
+mul-result-2 : tie.Need-mul-result-2
+mul-result-2 c = rw (c .before .full-of .ensures) (omega (arith, product-high (c .before .before .before .before .before .before .before .before .before .before .before .before .before .before .before .before .before .before .before .args .t) (fine (c .before .before .before .before .before .before .before .before .before .before .before .before .before .before .before)) (few (c .before .before .before .before .before .before .before .before .before .before .before .before .before))))
+
+returns-7 : tie.Need-returns-7
+returns-7 c = rw (c .before .before .full-of .ensures) (shortfall-tells (c .before .before .before .before .before .before .before .before .before .before .before .before .before .before .before .before .before .before .before .before .args .t) (fine (c .before .before .before .before .before .before .before .before .before .before .before .before .before .before .before .before)) (few (c .before .before .before .before .before .before .before .before .before .before .before .before .before .before)) (counted (c .before .before .before .before .before .before .before .before .before .before)) (classed (c .before .before .before .before .before .before .before .before)) (placed (c .before .before .before .before .before .before)) (made-up (c .before .before .before)))
 
 pub is-unsound-spec : {M : Type 1} → statement M
 is-unsound-spec =
@@ -78,7 +88,9 @@ is-unsound-spec =
     returns-4
     sags-add-up-requires
     returns-5
+    adds-up-requires-2
+    returns-6
     full-of-requires
     mul-result
     mul-result-2
-    returns-6)
+    returns-7)

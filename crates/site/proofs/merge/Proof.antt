@@ -36,9 +36,13 @@ add-t14 c = omega (arith, c .before .before .before .before .before .before .bef
 add-t15 : tie.Need-add-t15
 add-t15 c = omega (arith, c .before .before .before .before .before .before .before .before .before .before .before .before .before .before .before .before .before .before .before .before .before .before .pre .shortfall-low)
 
+add-sums-requires : tie.Need-add-sums-requires
+add-sums-requires c κs =
+    let p = c .before .before .before .before .before .before .before .before .before .before .before .before .before .before .before .before .before .before .before .before .before .before .pre .parts-low in (omega (arith, p), omega (arith, p), omega (arith, p))
+
 returns : tie.Need-returns
 unfolding merged
-returns c = rw (c .before .before .before .before .before .before .before .before .before .before .add-cells .ensures)
+returns c = rw (c .before .before .before .before .before .before .before .before .before .before .before .add-cells .ensures, c .add-sums .ensures)
 
 pub merge-spec : {M : Type 1} → statement M
 merge-spec =
@@ -54,4 +58,5 @@ merge-spec =
     add-t13
     add-t14
     add-t15
+    add-sums-requires
     returns)

@@ -7,7 +7,7 @@ use borrow.Author.Needs.{needs}
 use borrow.Author.Tests.{not-true, not-false}
 use denote.Ref.{now}
 use Rattle.rules.specs.Halves.{halvesOf}
-use Rattle.survey.proofs.Tables.{Reached, on-reached, on-bad, start-reached, first-bad-step, ask-first, ask-bad, turned, ask-next, ask-end, end-made}
+use Rattle.survey.proofs.Tables.{Reached, on-reached, on-bad, start-reached, first-bad-step, ask-first, ask-bad, turned, ask-next, ask-end, ask-taken, end-made}
 use Rattle.survey.proofs.table_of.Statement.{statement}
 use Rattle.survey.proofs.table_of.Tie as tie
 
@@ -111,7 +111,11 @@ land-requires c κs =
     ask-end _ _ (v .0) (v .1) _ _ _ _ _ (counted t) (ended e) (t .loop .inv .1)
 
 taken-requires : tie.Need-taken-requires Inv-loop μ-loop
-taken-requires c κs = search needs
+taken-requires c κs =
+    let e = c .before .before .before .before in
+    let t = e .before in
+    let v = start t .pre in
+    ask-taken _ _ (v .0) (v .1) _ _ _ _ _ (counted t) (ended e) (t .loop .inv .1) _ (c .land .ensures .0)
 
 returns-3 : tie.Need-returns-3 Inv-loop μ-loop
 returns-3 c =

@@ -11,7 +11,7 @@ use Rattle.words.proofs.table_of.Statement.{statement}
 use Rattle.words.proofs.table_of.Tie as tie
 
 -- a run of forty that is filled from the front
-cells-read : (w : List ℕ) → length w ≡ 56 → let part = take 40 (drop 11 w) in paste (replicate 40 0) 0 part (length part) ≡ part
+cells-read : (w : List ℕ) → length w ≡ 59 → let part = take 40 (drop 11 w) in paste (replicate 40 0) 0 part (length part) ≡ part
 cells-read w h =
     let part = take 40 (drop 11 w) in
     let forty : length part ≡ 40 = simp (length-take, length-drop) (omega arith) in
@@ -83,11 +83,20 @@ array-read-t51 c = search needs
 array-read-t54 : tie.Need-array-read-t54
 array-read-t54 c = search needs
 
+array-read-t57 : tie.Need-array-read-t57
+array-read-t57 c = search needs
+
+array-read-t60 : tie.Need-array-read-t60
+array-read-t60 c = search needs
+
+array-read-t63 : tie.Need-array-read-t63
+array-read-t63 c = search needs
+
 returns : tie.Need-returns
 unfolding tableFrom
 returns c =
     let w = c .before .before .before .before .before .before .args .t1 in
-    let all : length w ≡ 56 = search needs in
+    let all : length w ≡ 59 = search needs in
     rw (c .before .before .before .before .before .settings .ensures, c .before .copy .ensures, cells-read w all)
 
 pub table-of-spec : {M : Type 1} → statement M
@@ -116,4 +125,7 @@ table-of-spec =
     array-read-t16
     array-read-t51
     array-read-t54
+    array-read-t57
+    array-read-t60
+    array-read-t63
     returns)

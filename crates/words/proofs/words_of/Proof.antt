@@ -14,12 +14,12 @@ forty : (c : tie.Start) → length (c .args .t .cells) ≡ 40
 forty c = search needs
 
 -- what stands there before the cells are copied
-around : (c : tie.After-copy2) → let t = c .before .before .before .before .before .before .before .before .before .args .t in
+around : (c : tie.After-copy2) → let t = c .before .before .before .before .before .before .before .before .before .before .args .t in
     c .copy2 .last .1 .0 ≡ headOf t ++ replicate 40 0 ++ tailOf t
 around c =
     let first = c .before .before .before .before in
-    let t = first .before .before .before .before .before .args .t in
-    c .copy2 .ensures ∙ ap (λ (w : List ℕ). paste w 51 (tailOf t) 5) (first .copy .ensures)
+    let t = first .before .before .before .before .before .before .args .t in
+    c .copy2 .ensures ∙ ap (λ (w : List ℕ). paste w 51 (tailOf t) 8) (first .copy .ensures)
 
 slice-aggregate-copy : tie.Need-slice-aggregate-copy
 slice-aggregate-copy c = search needs
@@ -47,14 +47,14 @@ slice-aggregate-copy-6 c = search needs
 
 copy-requires-3 : tie.Need-copy-requires-3
 copy-requires-3 c κs =
-    let start = c .before .before .before .before .before .before .before .before .before .before .before .before in
+    let start = c .before .before .before .before .before .before .before .before .before .before .before .before .before in
     rw (around (c .before .before .before)) (omega (arith, forty start))
 
 returns : tie.Need-returns
 unfolding tableWords
 returns c =
     let copied = c .before in
-    let start = copied .before .before .before .before .before .before .before .before .before .before .before .before .before in
+    let start = copied .before .before .before .before .before .before .before .before .before .before .before .before .before .before in
     copied .copy3 .ensures
     ∙ rw (around (copied .before .before .before .before), forty start, take-all 40 (start .args .t .cells) (omega (arith, forty start)))
 
