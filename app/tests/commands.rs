@@ -54,8 +54,8 @@ fn list_is_aligned_and_plain() {
     folder.write("k.csv", csv(&k2()));
     let wanted = "\
 k.csv: 5 half-cycles (0.050 s): 2 healthy, 3 disturbed, 0 unknown; 1 event
-  no  kind  start  end       at   lasted  seen  extreme  retained  shortfall  type  severity   energy  cell
-   1  sag       1    4  0.010 s  0.030 s  both  2000000       500   36000000  A        1.000  0.045 s  17
+  no  kind  start  end       at   lasted  seen  extreme  retained  shortfall  type  severity   energy   a lost   b lost   c lost  cell
+   1  sag       1    4  0.010 s  0.030 s  both  2000000       500   36000000  A        1.000  0.045 s  0.015 s  0.015 s  0.015 s  17
 ";
     assert_eq!(folder.accepted(&[&["list", "k.csv"][..], &KNOWN].concat()), wanted);
 }
@@ -69,12 +69,14 @@ fn list_in_json() {
         \"cuts\":[],\"parts\":[{\"part\":1,\"first_half_cycle\":0,\"half_cycles\":\
         {\"total\":5,\"healthy\":2,\"disturbed\":3,\"unknown\":0},\"events\":[{\"kind\":1,\"kind_word\":\"sag\",\"start\":1,\
         \"end\":4,\"start_seconds\":0.01,\"seen\":3,\"cut\":0,\"extreme\":2000000,\"retained\":500,\"shortfall\":36000000,\"type\":0,\"type_word\":\"A\",\
-        \"reason\":0,\"reason_words\":\"scored\",\"cell\":17,\"severity\":1,\"energy\":0.045}]}]}]}\n";
+        \"reason\":0,\"reason_words\":\"scored\",\"cell\":17,\"severity\":1,\"energy\":0.045,\
+        \"shortfall_a\":12000000,\"shortfall_b\":12000000,\"shortfall_c\":12000000}]}]}]}\n";
     assert_eq!(folder.accepted(&[&["list", "k.csv", "--json"][..], &KNOWN].concat()), wanted);
     let swell = csv(&blocks(&[1000, 1000, 1200, 1200, 1000, 1000]));
     folder.write("k.csv", swell);
     let told = folder.accepted(&[&["list", "k.csv", "--json"][..], &KNOWN].concat());
-    assert!(told.contains("\"cell\":40,\"severity\":null,\"energy\":null}"), "{told}");
+    let none = "\"cell\":40,\"severity\":null,\"energy\":null,\"shortfall_a\":0,\"shortfall_b\":0,\"shortfall_c\":0}";
+    assert!(told.contains(none), "{told}");
 }
 
 #[test]
@@ -149,6 +151,9 @@ x.site: N 8, R 1000, 50 Hz; sag 90 %, interruption 10 %, swell 110 %, hysteresis
   interruptions  0
   swells         0
   shortfall      72000000 = 0.090 s
+    channel a    24000000 = 0.030 s
+    channel b    24000000 = 0.030 s
+    channel c    24000000 = 0.030 s
 
   sags by depth  < 1 cycle  < 0.1 s  0.1-0.5 s  0.5-1 s  1-3 s  3-20 s  20-60 s  60 s up
   at most 10 %           .        .          .        .      .       .        .        .
@@ -160,10 +165,12 @@ x.site: N 8, R 1000, 50 Hz; sag 90 %, interruption 10 %, swell 110 %, hysteresis
     assert_eq!(folder.accepted(&["show", "x.site"]), wanted);
     let json = folder.accepted(&["show", "x.site", "--json"]);
     let cells = "\"cells\":[[0,0,0,0,0,0,0,0],[0,0,0,0,0,0,0,0],[0,2,0,0,0,0,0,0],[0,0,0,0,0,0,0,0],[0,0,0,0,0,0,0,0]]";
-    assert!(json.contains(cells) && json.ends_with("\"shortfall\":72000000,\"shortfall_seconds\":0.090}\n"), "{json}");
+    let shortfalls = "\"shortfall\":72000000,\"shortfall_seconds\":0.090,\
+        \"shortfall_a\":24000000,\"shortfall_b\":24000000,\"shortfall_c\":24000000}\n";
+    assert!(json.contains(cells) && json.ends_with(shortfalls), "{json}");
     let csv = folder.accepted(&["show", "x.site", "--csv"]);
-    assert_eq!(csv.lines().count(), 57);
-    assert_eq!(csv.replace(',', " ").replace("name value\n", "burrcradle site 2\n"), folder.read("x.site"));
+    assert_eq!(csv.lines().count(), 60);
+    assert_eq!(csv.replace(',', " ").replace("name value\n", "burrcradle site 3\n"), folder.read("x.site"));
 }
 
 #[test]
@@ -188,7 +195,7 @@ fn demo_lists_tables_and_writes_its_page() {
     let folder = Folder::new("demo");
     let told = folder.accepted(&["demo"]);
     for words in [
-        "   1  sag      19   59  0.190 s  0.400 s  both  12188262852       600  176251862040  Da       1.333  0.052 s  18\n",
+        "   1  sag      19   59  0.190 s  0.400 s  both  12188262852       600  176251862040  Da       1.333  0.052 s  0.052 s  nothing  nothing  18\n",
         "none: only the end unseen\n",
         "none: only the start unseen\n",
         "   2  interruption     20   29  0.200 s  0.090 s  both",

@@ -1,7 +1,7 @@
 //! Cutting: between events wherever that can be had, so that the parts' events, moved back, are those of the whole run, which
 //! the second program lists without cutting.
 mod common;
-use common::{blocks, csv, k2, raw, rows, Folder, KNOWN, MISSING};
+use common::{blocks, csv, k2, raw, rows, Folder, EVENT, KNOWN, MISSING};
 use oracle::{plain, random::Random, Event, Settings};
 
 const S: Settings = Settings { n: 8, r: 1000, f: 50, sag: 90, interruption: 10, swell: 110, hysteresis: 2 };
@@ -20,8 +20,7 @@ fn parts(folder: &Folder, file: &str) -> Vec<u64> {
 /// The events of a cut recording as they are listed, and the recording's total, healthy, disturbed and unknown half-cycles.
 fn listed(folder: &Folder, file: &str) -> (Vec<Event>, [u64; 4]) {
     let rows = rows(&folder.accepted(&list(file, &["--cut", "--csv"])));
-    let names = ["kind", "start", "end", "seen", "extreme", "retained", "shortfall", "type"];
-    let events = rows.iter().filter(|row| row.field("kind") != "0").map(|row| names.map(|name| row.number(name)));
+    let events = rows.iter().filter(|row| row.field("kind") != "0").map(|row| EVENT.map(|name| row.number(name)));
     (events.collect(), ["total", "healthy", "disturbed", "unknown"].map(|name| rows[0].number(name)))
 }
 
@@ -47,6 +46,8 @@ fn events_of_the_parts_are_those_of_the_whole() {
         }
         levels.truncate(blocks_wanted);
         let mut samples = blocks(&levels);
+        // One channel goes its own way for a while, so that the shortfalls of the three differ.
+        samples[12_000..].iter_mut().skip(2).step_by(3).take(40_000).for_each(|c| *c = 700);
         for _ in 0..random.below(60) {
             // Gaps, most of them where a cut may lie.
             let near = random.pick(&[99_990, 100_000, 199_990]) * 12;
@@ -76,7 +77,10 @@ fn events_of_the_parts_are_those_of_the_whole() {
         for (name, kind) in [("sags", 1), ("interruptions", 2), ("swells", 3)] {
             assert_eq!(folder.counted(&site, name), of(kind, 0) + of(kind, 3), "{round}: {name}");
         }
-        assert_eq!(folder.counted(&site, "shortfall"), events.iter().map(|e| e[6]).sum::<u64>(), "{round}");
+        let shortfalls = [("shortfall", 6), ("shortfall-a", 8), ("shortfall-b", 9), ("shortfall-c", 10)];
+        for (name, at) in shortfalls {
+            assert_eq!(folder.counted(&site, name), events.iter().map(|e| e[at]).sum::<u64>(), "{round}: {name}");
+        }
     }
 }
 
@@ -206,6 +210,11 @@ fn a_long_event_is_named_at_each_cut() {
         "none, reason 2: only the end unseen; the recording is cut there, so neither severity nor cell is given",
         "this is a piece of the sag that a cut has split, so the start is not told.",
         "of this piece alone: severity (1000 - 500) / (1000 - 900) = 5.000",
+        // Over 1000 and 500 a channel is 3,000,000 short, over 500 and 500 6,000,000, over 500 and 910 3,687,600: 3 + 4 x 6 +
+        // 3.6876 millions in the first piece, 2 x 3.6876 + 2 x 6 in the last; 800,000 make a millisecond.
+        "of this piece alone: channel a lost at least 0.038 s, b at least 0.038 s, c at least 0.038 s: 30687600 + 30687600 + \
+         30687600 = shortfall 92062800,",
+        "of this piece alone: channel a lost 0.024 s, b 0.024 s, c 0.024 s: 19375200 + 19375200 + 19375200 = shortfall 58125600,",
     ] {
         assert!(told.contains(words), "{words}: {told}");
     }
@@ -373,7 +382,7 @@ fn room_is_asked_part_by_part() {
     let mut levels = vec![1000; 100_200];
     levels[100_051..100_061].fill(500);
     folder.write("long.i32", raw(&blocks(&levels)));
-    let ran = folder.refused(&list("long.i32", &["--cut", "--room", "7"]), 7, 1);
+    let ran = folder.refused(&list("long.i32", &["--cut", "--room", "10"]), 7, 1);
     assert!(ran.err.contains("long.i32, part 2 of 2: refusal 7"), "{ran:?}");
-    assert_eq!(folder.events("long.i32", &["--cut", "--room", "8"]).len(), 1);
+    assert_eq!(folder.events("long.i32", &["--cut", "--room", "11"]).len(), 1);
 }

@@ -269,6 +269,6 @@ fn sentences_in_json_and_csv() {
     let json = folder.accepted(&[&["explain", "k.csv", "--json"][..], &KNOWN].concat());
     assert!(json.contains("\"score\":\"severity (1000 - 500) / (1000 - 500) = 1.000: "), "{json}");
     let csv = folder.accepted(&[&["explain", "k.csv", "--csv"][..], &KNOWN].concat());
-    assert!(csv.lines().next().unwrap().ends_with(",launch,peak,landing,score"), "{csv}");
+    assert!(csv.lines().next().unwrap().contains(",energy,launch,peak,landing,score,loss,"), "{csv}");
     assert!(csv.contains(",\"half-cycle 1 (at 0.010 s): a, b and c are below 90 % of R"), "{csv}");
 }

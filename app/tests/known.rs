@@ -2,16 +2,16 @@
 mod common;
 use common::{blocks, csv, listed, raw, Folder, KNOWN, MISSING};
 
-/// A known answer: the recording; each event's eight numbers, reason and cell, with its severity and energy; total,
+/// A known answer: the recording; each event's eleven numbers, reason and cell, with its severity and energy; total,
 /// healthy, disturbed and unknown half-cycles.
 struct Known {
     name: &'static str,
     samples: Vec<i32>,
-    events: Vec<([u64; 10], &'static str)>,
+    events: Vec<([u64; 13], &'static str)>,
     halves: [u64; 4],
 }
 
-fn known(name: &'static str, samples: Vec<i32>, events: &[([u64; 10], &'static str)], halves: [u64; 4]) -> Known {
+fn known(name: &'static str, samples: Vec<i32>, events: &[([u64; 13], &'static str)], halves: [u64; 4]) -> Known {
     Known { name, samples, events: events.to_vec(), halves }
 }
 
@@ -29,32 +29,45 @@ fn one_channel() -> Vec<i32> {
     samples
 }
 
+/// The shortfalls of the channels, by hand. N x R x R is 8,000,000, and a channel's sum counts where it is below 6,480,000, the 90
+/// percent. A half-cycle over two blocks at x and y has 4xx + 4yy: over 1000 and 500 that is 5,000,000 and 3,000,000 short, over
+/// 500 and 500 2,000,000 and 6,000,000 short.
+/// K2 has one such half-cycle, then one of the other, then the first again, on each channel: 3 + 6 + 3 millions. K12 has them on a
+/// alone, and b and c are never below.
+/// K4 and K5 have one half-cycle below, at 899: 8 x 808,201 = 6,465,608, so 1,534,392 short on each. In K5 the next, over 899
+/// and 919, has 6,611,048, which is above: the hysteresis band counts for no channel.
+/// K6 has 4,000,000 short, 8,000,000 and 4,000,000 again on each.
+/// K7 over 1000 and 100 has 4,040,000, over 100 and 101 80,804, over 101 and 1000 4,040,804: 3,960,000 + 7,919,196 + 3,959,196.
+/// K8 begins with the 6 and the 3 millions. K9 has 3 and 6 before the gap, and after it the 3 of the half-cycle over 500 and 1000.
+/// K11 is the one half-cycle of 6 millions.
 #[rustfmt::skip]
 fn cases() -> Vec<Known> {
     vec![
         known("k1", blocks(&[1000; 6]), &[], [5, 5, 0, 0]),
         known("k2", blocks(&[1000, 1000, 500, 500, 1000, 1000]),
-            &[([1, 1, 4, 3, 2000000, 500, 36000000, 0, 0, 17], "1 0.045")], [5, 2, 3, 0]),
+            &[([1, 1, 4, 3, 2000000, 500, 36000000, 0, 12000000, 12000000, 12000000, 0, 17], "1 0.045")], [5, 2, 3, 0]),
         known("k3", blocks(&[900; 6]), &[], [5, 5, 0, 0]),
         known("k4", blocks(&[1000, 1000, 899, 899, 1000, 1000]),
-            &[([1, 2, 3, 3, 6465608, 899, 4603176, 0, 0, 32], "0.101 0.005")], [5, 4, 1, 0]),
+            &[([1, 2, 3, 3, 6465608, 899, 4603176, 0, 1534392, 1534392, 1534392, 0, 32], "0.101 0.005")], [5, 4, 1, 0]),
         known("k5", blocks(&[1000, 899, 899, 919, 919, 920, 920]),
-            &[([1, 1, 5, 3, 6465608, 899, 4603176, 0, 0, 33], "0.202 0.005")], [6, 2, 4, 0]),
+            &[([1, 1, 5, 3, 6465608, 899, 4603176, 0, 1534392, 1534392, 1534392, 0, 33], "0.202 0.005")], [6, 2, 4, 0]),
         known("k6", blocks(&[1000, 1000, 0, 0, 1000, 1000]),
-            &[([1, 1, 4, 3, 0, 0, 48000000, 0, 0, 1], "2 0.06"), ([2, 2, 3, 3, 0, 0, 0, 0, 4, 40], " ")], [5, 2, 3, 0]),
+            &[([1, 1, 4, 3, 0, 0, 48000000, 0, 16000000, 16000000, 16000000, 0, 1], "2 0.06"),
+              ([2, 2, 3, 3, 0, 0, 0, 0, 0, 0, 0, 4, 40], " ")], [5, 2, 3, 0]),
         known("k7", blocks(&[1000, 1000, 100, 101, 1000, 1000]),
-            &[([1, 1, 4, 3, 80804, 101, 47515176, 0, 0, 9], "1.798 0.059")], [5, 2, 3, 0]),
+            &[([1, 1, 4, 3, 80804, 101, 47515176, 0, 15838392, 15838392, 15838392, 0, 9], "1.798 0.059")], [5, 2, 3, 0]),
         known("k8", blocks(&[500, 500, 1000, 1000]),
-            &[([1, 0, 2, 2, 2000000, 500, 27000000, 0, 1, 40], " ")], [3, 1, 2, 0]),
+            &[([1, 0, 2, 2, 2000000, 500, 27000000, 0, 9000000, 9000000, 9000000, 1, 40], " ")], [3, 1, 2, 0]),
         known("k9", gap(),
-            &[([1, 1, 3, 1, 2000000, 500, 27000000, 0, 2, 40], " "), ([1, 5, 6, 2, 5000000, 791, 9000000, 0, 1, 40], " ")],
+            &[([1, 1, 3, 1, 2000000, 500, 27000000, 0, 9000000, 9000000, 9000000, 2, 40], " "),
+              ([1, 5, 6, 2, 5000000, 791, 9000000, 0, 3000000, 3000000, 3000000, 1, 40], " ")],
             [7, 2, 3, 2]),
         known("k10", blocks(&[1000, 1000, 1200, 1200, 1000, 1000]),
-            &[([3, 1, 4, 3, 11520000, 1200, 0, 0, 4, 40], " ")], [5, 2, 3, 0]),
+            &[([3, 1, 4, 3, 11520000, 1200, 0, 0, 0, 0, 0, 4, 40], " ")], [5, 2, 3, 0]),
         known("k11", blocks(&[500, 500]),
-            &[([1, 0, 1, 0, 2000000, 500, 18000000, 0, 3, 40], " ")], [1, 0, 1, 0]),
+            &[([1, 0, 1, 0, 2000000, 500, 18000000, 0, 6000000, 6000000, 6000000, 3, 40], " ")], [1, 0, 1, 0]),
         known("k12", one_channel(),
-            &[([1, 1, 4, 3, 2000000, 500, 12000000, 4, 0, 17], "1 0.015")], [5, 2, 3, 0]),
+            &[([1, 1, 4, 3, 2000000, 500, 12000000, 4, 12000000, 0, 0, 0, 17], "1 0.015")], [5, 2, 3, 0]),
     ]
 }
 
@@ -109,15 +122,17 @@ fn tables() {
         for (name, kind) in [("sags", 1), ("interruptions", 2), ("swells", 3)] {
             assert_eq!(folder.counted(&site, name), of(kind), "{}: {name}", case.name);
         }
-        let cell = |cell: u64| case.events.iter().filter(|(e, _)| e[9] == cell).count() as u64;
+        let cell = |cell: u64| case.events.iter().filter(|(e, _)| e[12] == cell).count() as u64;
         let told = folder.accepted(&["show", &site, "--csv"]);
         for at in 0..40 {
             assert!(told.contains(&format!("\ncell-{at},{}\n", cell(at))), "{}: cell {at}: {told}", case.name);
         }
-        let unplaced = case.events.iter().filter(|(e, _)| e[0] == 1 && e[9] == 40).count() as u64;
+        let unplaced = case.events.iter().filter(|(e, _)| e[0] == 1 && e[12] == 40).count() as u64;
         assert_eq!(folder.counted(&site, "unplaced"), unplaced, "{}", case.name);
-        let shortfall: u64 = case.events.iter().map(|(e, _)| e[6]).sum();
-        assert_eq!(folder.counted(&site, "shortfall"), shortfall, "{}", case.name);
+        for (name, at) in [("shortfall", 6), ("shortfall-a", 8), ("shortfall-b", 9), ("shortfall-c", 10)] {
+            let sum: u64 = case.events.iter().map(|(e, _)| e[at]).sum();
+            assert_eq!(folder.counted(&site, name), sum, "{}: {name}", case.name);
+        }
     }
 }
 
@@ -147,6 +162,11 @@ fn one_table_of_all() {
         ("cell-1", 1),
         ("cell-32", 1),
         ("cell-33", 1),
+        // All but K12's are a third on each channel: b and c have 12 + 1.534392 x 2 + 16 + 15.838392 + 9 + 9 + 3 + 6 millions.
+        ("shortfall", 233_721_528),
+        ("shortfall-a", 85_907_176),
+        ("shortfall-b", 73_907_176),
+        ("shortfall-c", 73_907_176),
     ];
     for (name, count) in wanted {
         assert_eq!(folder.counted("all.site", name), count, "{name}");

@@ -95,12 +95,14 @@ fn refusal_6_a_sample_out_of_range() {
 fn refusal_7_too_little_room() {
     let folder = Folder::new("refusal-7");
     folder.write("k.csv", csv(&k2()));
-    let ran = folder.refused(&list("k.csv", &["--room", "7"]), 7, 1);
-    assert!(ran.err.contains("the room is below 8 x the number of events, which is 1"), "{ran:?}");
-    assert_eq!(folder.events("k.csv", &["--room", "8"]).len(), 1);
+    for room in ["7", "8", "10"] {
+        let ran = folder.refused(&list("k.csv", &["--room", room]), 7, 1);
+        assert!(ran.err.contains("the room is below 11 x the number of events, which is 1"), "{ran:?}");
+    }
+    assert_eq!(folder.events("k.csv", &["--room", "11"]).len(), 1);
     folder.write("k6.csv", csv(&blocks(&[1000, 1000, 0, 0, 1000, 1000])));
-    folder.refused(&list("k6.csv", &["--room", "15"]), 7, 2);
-    assert_eq!(folder.events("k6.csv", &["--room", "16"]).len(), 2);
+    folder.refused(&list("k6.csv", &["--room", "21"]), 7, 2);
+    assert_eq!(folder.events("k6.csv", &["--room", "22"]).len(), 2);
 }
 
 #[test]
@@ -157,7 +159,10 @@ fn refusal_9_finds_each_kind_of_damage() {
         ("unplaced 0", "unplaced 1"),
         ("swells 0", "swells 6"),
         ("interruptions 1", "interruptions 6"),
-        ("shortfall 48000000", "shortfall 120000001"),
+        ("shortfall 48000000", "shortfall 48000001"),
+        ("shortfall-a 16000000", "shortfall-a 16000001"),
+        ("shortfall-b 16000000", "shortfall-b 15999999"),
+        ("shortfall-c 16000000", "shortfall-c 0"),
     ];
     for (was, is) in damage {
         assert!(good.contains(&format!("\n{was}\n")), "{was}");
@@ -170,8 +175,46 @@ fn refusal_9_finds_each_kind_of_damage() {
     // At the border itself each is sound.
     folder.write("x.site", long.replace("4000001", "4000000").replace("3999998", "3999997"));
     folder.accepted(&["show", "x.site"]);
-    folder.write("x.site", good.replace("shortfall 48000000", "shortfall 120000000"));
+    // The parts add up, and the whole is at most 3 x 8 x 1000 x 1000 x 5.
+    let parts = |whole: &str, [a, b, c]: [&str; 3]| {
+        let numbers = format!("shortfall {whole}\nshortfall-a {a}\nshortfall-b {b}\nshortfall-c {c}\n");
+        format!("{}\n{numbers}", good.split_once("\nshortfall ").unwrap().0)
+    };
+    folder.write("x.site", parts("120000000", ["40000000", "40000000", "40000000"]));
     folder.accepted(&["show", "x.site"]);
+    folder.write("x.site", parts("120000001", ["40000000", "40000000", "40000001"]));
+    folder.refused(&["show", "x.site"], 9, 0);
+    // One channel may have lost it all. A sum that wraps at 64 bits does not add up.
+    folder.write("x.site", parts("48000000", ["0", "0", "48000000"]));
+    folder.accepted(&["show", "x.site"]);
+    folder.write("x.site", parts("48000000", ["18446744073709551615", "48000001", "0"]));
+    folder.refused(&["show", "x.site"], 9, 0);
+}
+
+/// Parts that don't add up are told as any other damage, by every command, and left.
+#[test]
+fn refusal_9_for_parts_that_do_not_add_up() {
+    let folder = Folder::new("refusal-9-parts");
+    folder.site("x.site");
+    folder.write("k.csv", csv(&k2()));
+    folder.accepted(&["add", "x.site", "k.csv"]);
+    let edited = folder.read("x.site").replace("shortfall-a 12000000", "shortfall-a 12000001");
+    folder.write("x.site", &edited);
+    let commands: [&[&str]; 6] = [
+        &["show", "x.site"],
+        &["add", "x.site", "k.csv"],
+        &["list", "k.csv", "--site", "x.site"],
+        &["explain", "k.csv", "--site", "x.site"],
+        &["check", "k.csv", "--site", "x.site"],
+        &["report", "x.site", "k.csv", "-o", "x.html"],
+    ];
+    for args in commands {
+        let ran = folder.refused(args, 9, 0);
+        let words = "the table offered is unsound (the file is damaged or was edited, and is left as it is)";
+        assert!(ran.err.contains(words), "{ran:?}");
+    }
+    assert_eq!(folder.read("x.site"), edited);
+    assert!(!folder.path("x.html").exists());
 }
 
 #[test]
@@ -195,7 +238,7 @@ fn a_refusal_is_json_for_programs() {
     folder.write("k.csv", csv(&k2()));
     let ran = folder.refused(&list("k.csv", &["--json", "--room", "0"]), 7, 1);
     let wanted = "{\"refused\":{\"what\":\"k.csv\",\"number\":7,\"place\":1,\
-                  \"sentence\":\"the room is below 8 x the number of events, which is 1\"}}\n";
+                  \"sentence\":\"the room is below 11 x the number of events, which is 1\"}}\n";
     assert_eq!(ran.out, wanted);
     assert_eq!(folder.refused(&list("k.csv", &["--csv", "--room", "0"]), 7, 1).out, "");
 }

@@ -89,7 +89,10 @@ fn events_and_cells_are_the_librarys() {
     for words in ["reason 1: only the start unseen", "reason 2: only the end unseen", "reason 4: not a sag"] {
         assert!(page.contains(words), "{words}");
     }
-    assert!(page.contains("<td>2.000</td><td>0.060 s</td><td>cell 1<i>row 0 (at most 10 %), column 1 (&lt; 0.1 s)</i>"));
+    assert!(page.contains(
+        "<td>2.000</td><td>0.060 s</td><td><i>a 0.020 s</i><i>b 0.020 s</i><i>c 0.020 s</i></td>\
+         <td>cell 1<i>row 0 (at most 10 %), column 1 (&lt; 0.1 s)</i>"
+    ));
     let counts: Vec<&str> = page
         .split("class=\"count heat")
         .skip(1)

@@ -19,7 +19,7 @@ picture() {
 }
 
 mkdir -p "$root/docs"
-picture "$work/report.png" 1080 2640 demo.html
+picture "$work/report.png" 1080 2810 demo.html
 mv "$work/report.png" "$root/docs/report.png"
 if [ -n "$looks" ]; then
     mkdir -p "$looks"

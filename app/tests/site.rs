@@ -1,6 +1,6 @@
 //! A site's file: damage is told and never written over, a kill leaves a whole table, two adds at once lose nothing.
 mod common;
-use common::{blocks, csv, k2, Folder};
+use common::{blocks, csv, k2, Folder, KNOWN};
 use std::{
     fs::{self, File},
     process::Stdio,
@@ -16,13 +16,13 @@ fn with_k2(name: &str) -> Folder {
 }
 
 #[test]
-fn the_file_is_56_names_and_numbers() {
+fn the_file_is_59_names_and_numbers() {
     let folder = with_k2("site-file");
     folder.accepted(&["add", "x.site", "k.csv"]);
     let text = folder.read("x.site");
     let lines: Vec<&str> = text.lines().collect();
-    assert_eq!(lines.len(), 57);
-    assert_eq!(lines[0], "burrcradle site 2");
+    assert_eq!(lines.len(), 60);
+    assert_eq!(lines[0], "burrcradle site 3");
     assert_eq!(
         lines[1..12],
         [
@@ -40,7 +40,8 @@ fn the_file_is_56_names_and_numbers() {
         ]
     );
     assert_eq!((lines[12], lines[29], lines[51]), ("cell-0 0", "cell-17 1", "cell-39 0"));
-    assert_eq!(lines[52..], ["unplaced 0", "sags 1", "interruptions 0", "swells 0", "shortfall 36000000"]);
+    assert_eq!(lines[52..57], ["unplaced 0", "sags 1", "interruptions 0", "swells 0", "shortfall 36000000"]);
+    assert_eq!(lines[57..], ["shortfall-a 12000000", "shortfall-b 12000000", "shortfall-c 12000000"]);
 }
 
 /// A file cut short anywhere is a parse error, and `add` leaves it as it is.
@@ -57,7 +58,7 @@ fn a_file_cut_short_is_told() {
     }
     let short = &whole[..whole.len() - 3];
     folder.write("x.site", short);
-    folder.bad(&["add", "x.site", "k.csv"], "line 57 is cut short");
+    folder.bad(&["add", "x.site", "k.csv"], "line 60 is cut short");
     assert_eq!(folder.read("x.site"), short);
 }
 
@@ -66,8 +67,10 @@ fn an_edited_file_is_told_with_its_line() {
     let folder = with_k2("site-edited");
     let good = folder.read("x.site");
     let cases = [
-        (good.replace("burrcradle site 2", "burrcradle site 3"), "line 1: "),
-        (good.replace("burrcradle site 2\n", ""), "line 1: "),
+        (
+            good.replace("burrcradle site 3\n", ""),
+            "line 1: \"n 8\" where \"burrcradle site 3\" is wanted: no site's file, or",
+        ),
         (good.replace("\nr 1000\n", "\nr 1e3\n"), "line 3: \"1e3\" is no whole number"),
         (good.replace("\nr 1000\n", "\nr -1000\n"), "line 3: "),
         (good.replace("\nr 1000\n", "\nr 01000\n"), "line 3: "),
@@ -77,10 +80,13 @@ fn an_edited_file_is_told_with_its_line() {
         (good.replace("\nr 1000\n", "\n"), "line 3: \"f 50\" where \"r\""),
         (good.replace("\ntotal 0\n", "\ntotals 0\n"), "line 9: "),
         (good.replace('\n', "\r\n"), "line 1: "),
-        (format!("{good}\n"), "line 58: "),
-        (format!("{good}cell-40 0\n"), "line 58: "),
-        (format!("{good}x"), "line 58 is cut short"),
+        (format!("{good}\n"), "line 61: "),
+        (format!("{good}cell-40 0\n"), "line 61: "),
+        (format!("{good}x"), "line 61 is cut short"),
         (good.replace("sags", "s\u{fffd}gs"), "line 54: "),
+        (good.replace("\nshortfall-b 0\n", "\n"), "line 59: \"shortfall-c 0\" where \"shortfall-b\""),
+        (good.replace("\nshortfall-c 0\n", "\n"), "the file ends where shortfall-c is wanted"),
+        (good.replace("\nshortfall-a 0\n", "\nshortfall-a -1\n"), "line 58: \"-1\" is no whole number"),
     ];
     for (text, words) in cases {
         folder.write("x.site", &text);
@@ -92,106 +98,119 @@ fn an_edited_file_is_told_with_its_line() {
     }
 }
 
-/// A site's file that program 0.2.0 wrote: a fresh site to which the recording of `with_k6` was added.
-const VERSION_1: &str = include_str!("version-1.site");
+/// Site's files as program 0.2.0 kept them, in version 1, and program 0.5.0, in version 2: a fresh site to which the recording of
+/// `with_k6` was added.
+const EARLIER: [(u32, &str); 2] = [(1, include_str!("version-1.site")), (2, include_str!("version-2.site"))];
 
-/// A sag with an interruption in it, and a site that has taken it once, kept by program 0.2.0.
+/// A sag with an interruption in it.
 fn with_k6(name: &str) -> Folder {
     let folder = Folder::new(name);
     folder.write("k.csv", csv(&blocks(&[1000, 1000, 0, 0, 1000, 1000])));
-    folder.write("x.site", VERSION_1);
     folder
 }
 
-/// The same site, kept in this version from the start.
-fn kept_since(folder: &Folder) {
-    folder.site("y.site");
-    folder.accepted(&["add", "y.site", "k.csv"]);
+fn told_of(version: u32) -> String {
+    format!(
+        "burrcradle: x.site: line 1: a site's file of version {version}, kept before shortfalls were counted by channel. What each \
+         channel lost can't be worked out from it, and it is left as it is: `burrcradle new`, under another name, and `burrcradle \
+         add` make the site anew from its recordings\n"
+    )
 }
 
+/// The names of all files in a folder, hidden ones too.
+fn names(folder: &Folder) -> Vec<String> {
+    let entries = fs::read_dir(&folder.0).unwrap().map(|entry| entry.unwrap().file_name().into_string().unwrap());
+    let mut names: Vec<String> = entries.collect();
+    names.sort();
+    names
+}
+
+/// Every command that reads a site says so, with status 2, and none writes anything.
 #[test]
-fn a_file_of_version_1_is_read_as_it_was_meant_and_left() {
-    let folder = with_k6("site-version-1");
-    kept_since(&folder);
-    let asked: [&[&str]; 6] = [
-        &["show", "SITE"],
-        &["show", "SITE", "--json"],
-        &["show", "SITE", "--csv"],
-        &["list", "k.csv", "--site", "SITE"],
-        &["explain", "k.csv", "--site", "SITE"],
-        &["check", "k.csv", "--site", "SITE"],
+fn a_file_of_an_earlier_version_is_told_and_left() {
+    let folder = with_k6("site-earlier");
+    let commands: [&[&str]; 10] = [
+        &["show", "x.site"],
+        &["show", "x.site", "--json"],
+        &["show", "x.site", "--csv"],
+        &["add", "x.site", "k.csv"],
+        &["add", "x.site", "k.csv", "--json"],
+        &["list", "k.csv", "--site", "x.site"],
+        &["explain", "k.csv", "--site", "x.site"],
+        &["check", "k.csv", "--site", "x.site"],
+        &["report", "x.site", "k.csv", "-o", "x.html"],
+        &["report", "x.site", "k.csv", "-o", "x.html", "--force"],
     ];
-    for args in asked {
-        let of = |site: &str| {
-            let args: Vec<&str> = args.iter().map(|arg| if *arg == "SITE" { site } else { arg }).collect();
-            folder.accepted(&args).replace(site, "SITE")
-        };
-        assert_eq!(of("x.site"), of("y.site"), "{args:?}");
+    for (version, kept) in EARLIER {
+        folder.write("x.site", kept);
+        for args in commands {
+            assert_eq!(folder.bad(args, "").err, told_of(version), "{args:?}");
+            assert_eq!(fs::read(folder.path("x.site")).unwrap(), kept.as_bytes(), "{args:?}");
+            assert_eq!(names(&folder), ["k.csv", "x.site"], "{args:?}");
+        }
+        folder.bad(&[&["new", "x.site"][..], &KNOWN].concat(), "x.site: there is such a file already");
+        assert_eq!(fs::read(folder.path("x.site")).unwrap(), kept.as_bytes());
+        assert_eq!(names(&folder), ["k.csv", "x.site"]);
     }
-    folder.accepted(&["report", "x.site", "k.csv", "-o", "x.html"]);
-    assert_eq!(folder.read("x.site"), VERSION_1, "reading writes nothing");
 }
 
+/// What the sentence says can be done: the new file has each number of the old one, and those of the channels besides. K6 is
+/// 4,000,000, 8,000,000 and 4,000,000 short on each channel.
 #[test]
-fn the_next_add_writes_a_file_of_version_1_in_this_one() {
-    let folder = with_k6("site-version-1-add");
-    kept_since(&folder);
-    folder.write("bad.csv", csv(&k2()[..27]));
-    folder.refused(&["add", "x.site", "k.csv", "bad.csv"], 4, 0);
-    assert_eq!(folder.read("x.site"), VERSION_1, "a refused add leaves the version too");
-    let told = folder.accepted(&["add", "x.site", "k.csv"]);
-    assert_eq!(told.replace("x.site", "y.site"), folder.accepted(&["add", "y.site", "k.csv"]));
-    assert_eq!(folder.read("x.site"), folder.read("y.site"));
-    // Number by number: what was there and what the recording adds, and no count but the one that went is missing.
-    let numbers = |text: &str| -> Vec<(String, u64)> {
-        let pairs = text.lines().skip(1).map(|line| line.split_once(' ').unwrap());
-        pairs.map(|(name, number)| (name.to_string(), number.parse().unwrap())).collect()
-    };
-    let mut wanted = numbers(VERSION_1);
-    assert_eq!((wanted.len(), wanted.remove(55)), (57, ("stray".to_string(), 0)));
-    wanted[7..].iter_mut().for_each(|(_, number)| *number *= 2);
-    assert_eq!(numbers(&folder.read("x.site")), wanted);
-}
-
-/// Up to the interruptions, of which there is one, the number that went may be anything: the rest is what it was.
-#[test]
-fn what_version_1_had_besides_goes_whatever_it_was() {
-    let folder = with_k6("site-version-1-besides");
-    kept_since(&folder);
-    folder.write("x.site", VERSION_1.replace("stray 0", "stray 1"));
-    for site in ["x.site", "y.site"] {
-        folder.accepted(&["add", site, "k.csv"]);
+fn an_earlier_site_is_made_anew_from_its_recordings() {
+    let folder = with_k6("site-anew");
+    folder.site("anew.site");
+    folder.accepted(&["add", "anew.site", "k.csv"]);
+    let anew = folder.read("anew.site");
+    for (_, kept) in EARLIER {
+        let numbers = kept.lines().skip(1).filter(|line| *line != "stray 0").collect::<Vec<_>>();
+        assert_eq!(numbers.len(), 56);
+        let parts = ["shortfall-a 16000000", "shortfall-b 16000000", "shortfall-c 16000000"];
+        assert_eq!(anew.lines().skip(1).collect::<Vec<_>>(), [&numbers[..], &parts].concat());
     }
-    assert_eq!(folder.read("x.site"), folder.read("y.site"));
 }
 
-/// An earlier file is held to its own shape, and what breaks it is told and left.
+/// The version line alone tells, whatever follows it; and an earlier file under this version's line is a parse error.
 #[test]
-fn a_file_of_version_1_is_held_to_its_shape() {
-    let folder = with_k6("site-version-1-shape");
-    let now = VERSION_1.replace("burrcradle site 1", "burrcradle site 2");
-    let cases = [
-        (VERSION_1.replace("stray 0\n", ""), "line 57: \"shortfall 48000000\" where \"stray\""),
-        (VERSION_1.replace("stray 0", "stray -1"), "line 57: \"-1\" is no whole number"),
-        (VERSION_1.replace("stray 0\nshortfall 48000000\n", "shortfall 48000000\nstray 0\n"), "line 57: "),
-        (format!("{VERSION_1}stray 0\n"), "line 59: "),
-        (now, "line 57: \"stray 0\" where \"shortfall\""),
-    ];
-    for (text, words) in cases {
+fn an_earlier_version_is_told_by_its_line() {
+    let folder = with_k6("site-earlier-line");
+    for (version, kept) in EARLIER {
+        let first = kept.find('\n').unwrap() + 1;
+        for length in 0..kept.len() {
+            folder.write("x.site", &kept[..length]);
+            let err = folder.bad(&["show", "x.site"], "x.site: ").err;
+            assert_eq!(err == told_of(version), length >= first, "{length}: {err}");
+        }
+    }
+    let relabelled = |at: usize| EARLIER[at].1.replacen(&format!("site {}", EARLIER[at].0), "site 3", 1);
+    for (text, words) in [
+        (relabelled(0), "line 57: \"stray 0\" where \"shortfall\" and its number are wanted"),
+        (relabelled(1), "the file ends where shortfall-a is wanted"),
+    ] {
         folder.write("x.site", &text);
-        folder.bad(&["show", "x.site"], words);
-        folder.bad(&["add", "x.site", "k.csv"], words);
+        for args in [&["show", "x.site"][..], &["add", "x.site", "k.csv"]] {
+            folder.bad(args, words);
+        }
         assert_eq!(folder.read("x.site"), text, "left as it is");
     }
-    for length in 0..VERSION_1.len() {
-        folder.write("x.site", &VERSION_1[..length]);
-        assert_eq!(folder.run(&["show", "x.site"]).status, 2, "{length}");
-    }
-    for unsound in [VERSION_1.replace("stray 0", "stray 2"), VERSION_1.replace("swells 0", "swells 6")] {
-        folder.write("x.site", &unsound);
-        folder.refused(&["show", "x.site"], 9, 0);
-        folder.refused(&["add", "x.site", "k.csv"], 9, 0);
-        assert_eq!(folder.read("x.site"), unsound, "left as it is");
+}
+
+/// A later version, or one that never was, is not taken for an earlier one.
+#[test]
+fn another_version_is_told_as_that() {
+    let folder = with_k2("site-version");
+    let good = folder.read("x.site");
+    for version in ["4", "99", "0", "12", "21", "01", "3 ", "2 ", "-1", "", "three"] {
+        let text = good.replacen("burrcradle site 3", &format!("burrcradle site {version}"), 1);
+        folder.write("x.site", &text);
+        let words = format!(
+            "x.site: line 1: \"burrcradle site {version}\" where \"burrcradle site 3\" is wanted: no site's file, or of another \
+             version\n"
+        );
+        for args in [&["show", "x.site"][..], &["add", "x.site", "k.csv"]] {
+            folder.bad(args, &words);
+        }
+        assert_eq!(folder.read("x.site"), text, "left as it is");
     }
 }
 

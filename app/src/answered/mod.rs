@@ -17,6 +17,8 @@ pub struct Found {
     pub retained: u64,
     pub shortfall: u64,
     pub class: u64,
+    /// The shortfalls of channels a, b and c, which make up the shortfall.
+    pub by_channel: [u64; 3],
     pub reason: u64,
     pub cell: u64,
     pub score: Option<Score>,
@@ -27,6 +29,11 @@ pub struct Found {
 impl Found {
     pub fn halves(&self) -> u64 {
         self.end - self.start
+    }
+
+    /// Whether somebody saw it whole, from its start to its end.
+    pub fn seen_whole(&self) -> bool {
+        self.seen == 3
     }
 }
 
@@ -128,6 +135,7 @@ impl Answer {
             all.interruptions += c.interruptions;
             all.swells += c.swells;
             all.shortfall += c.shortfall;
+            all.by_channel.iter_mut().zip(c.by_channel).for_each(|(sum, own)| *sum += own);
         }
         all
     }

@@ -8,8 +8,9 @@ pub const SETTINGS: [&str; 7] = ["n", "r", "f", "sag", "interruption", "swell", 
 pub fn names() -> Vec<String> {
     let halves = ["total", "healthy", "disturbed", "unknown"].map(String::from);
     let cells = (0..40).map(|cell| format!("cell-{cell}"));
-    let events = ["unplaced", "sags", "interruptions", "swells", "shortfall"].map(String::from);
-    SETTINGS.map(String::from).into_iter().chain(halves).chain(cells).chain(events).collect()
+    let events = ["unplaced", "sags", "interruptions", "swells"].map(String::from);
+    let shortfalls = ["shortfall", "shortfall-a", "shortfall-b", "shortfall-c"].map(String::from);
+    SETTINGS.map(String::from).into_iter().chain(halves).chain(cells).chain(events).chain(shortfalls).collect()
 }
 
 /// What a table counts besides its cells.
@@ -24,12 +25,15 @@ pub struct Counts {
     pub interruptions: u64,
     pub swells: u64,
     pub shortfall: u64,
+    /// The shortfalls of channels a, b and c, which make up the shortfall.
+    pub by_channel: [u64; 3],
 }
 
 pub fn counts(table: &Table) -> Counts {
     let [total, healthy, disturbed, unknown] = [table[7], table[8], table[9], table[10]];
-    let [unplaced, sags, interruptions, swells, shortfall] = [table[51], table[52], table[53], table[54], table[55]];
-    Counts { total, healthy, disturbed, unknown, unplaced, sags, interruptions, swells, shortfall }
+    let [unplaced, sags, interruptions, swells] = [table[51], table[52], table[53], table[54]];
+    let (shortfall, by_channel) = (table[55], [table[56], table[57], table[58]]);
+    Counts { total, healthy, disturbed, unknown, unplaced, sags, interruptions, swells, shortfall, by_channel }
 }
 
 /// The forty cells of a table, in order.

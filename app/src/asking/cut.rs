@@ -207,9 +207,9 @@ mod tests {
 
     /// The events of all parts where they lie in the whole.
     fn moved_back(cutting: &Cutting) -> Vec<Event> {
-        let moved = |first: u64, [kind, start, end, rest @ ..]: Event| {
-            let [seen, extreme, retained, shortfall, class] = rest;
-            [kind, first + start, first + end, seen, extreme, retained, shortfall, class]
+        let moved = |first: u64, mut event: Event| {
+            event[1..3].iter_mut().for_each(|half| *half += first);
+            event
         };
         let of = |part: &Stretch| {
             part.events.iter().flatten().map(|e| moved(part.first_half as u64, *e)).collect::<Vec<_>>()

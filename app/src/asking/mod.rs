@@ -94,10 +94,10 @@ fn part_by_part(
 
 /// An event's numbers by name, with what the library says of them, moved to where it lies in the whole recording.
 fn found(s: &Settings, first: u64, event: &Event, close: Option<Close>) -> Found {
-    let [kind, start, end, seen, extreme, retained, shortfall, class] = *event;
+    let [kind, start, end, seen, extreme, retained, shortfall, class, by_channel @ ..] = *event;
     let (reason, cell, score) = (host::reason(s, event), host::cell(s, event), host::score(s, event).ok());
     let (start, end) = (first + start, first + end);
-    Found { kind, start, end, seen, extreme, retained, shortfall, class, reason, cell, score, close }
+    Found { kind, start, end, seen, extreme, retained, shortfall, class, by_channel, reason, cell, score, close }
 }
 
 fn picture(s: &Settings, stretch: &Stretch, halves: u64, columns: usize) -> Picture {

@@ -95,17 +95,20 @@ burrcradle list RECORDING... (--site SITE | --n N --r R --f F [--sag 90] [--inte
 
 Lists the events of recordings with their scores. Half-cycles are numbered from 0 in the whole recording, also where it is cut;
 an event goes from start up to but not with end, and begins at so many seconds. Its retained value is in thousandths of R, to
-the nearest, halves upward; thresholds and rows go by the extreme, the exact sum, and not by it.
+the nearest, halves upward; thresholds and rows go by the extreme, the exact sum, and not by it. What channels a, b and c lost
+is their part of a sag's shortfall in seconds, where the energy is the whole: >= where an end of the sag is unseen, and nothing
+only where it is exactly that. Each is rounded down by itself, so together they may be less than the energy.
 
 In CSV each row has its recording's total, healthy, disturbed and unknown half-cycles, the column cut says which ends a cut has
-taken (1 the start, 2 the end, 3 both), and a recording without events has one row of kind 0, none.
+taken (1 the start, 2 the end, 3 both), and a recording without events has one row of kind 0, none. The last three columns,
+shortfall_a, shortfall_b and shortfall_c, are exact and add up to shortfall; in JSON they have the same names.
 
     --site    takes the settings of a site
     --cut     cuts a recording of more than 100,000 half-cycles into parts, between events, so that each keeps its score.
               Where a stretch of 100,000 has no such place it is cut at its end, and the events that this splits are named
     --raw     reads recordings as raw 32-bit samples whatever their names, standard input too
-    --room    room for so many numbers, eight to an event, instead of as many as are needed
-    --json, --csv   for programs: all eight numbers of each event, reason, cell, severity, energy
+    --room    room for so many numbers, eleven to an event, instead of as many as are needed
+    --json, --csv   for programs: all eleven numbers of each event, reason, cell, severity, energy
 
 Example:
     burrcradle list monday.csv --site depot.site
@@ -115,8 +118,13 @@ Example:
 pub const SHOW: &str = "\
 burrcradle show SITE [--json | --csv]
 
-Shows a site's table: half-cycles, events, the sags by depth (rows) and duration (columns), and the shortfall as seconds
-(1000 x shortfall / (N x R x R x 2f), in whole milliseconds, rounded down).
+Shows a site's table: half-cycles, events, the sags by depth (rows) and duration (columns), and the shortfall, whole and of
+each channel, as seconds (1000 x shortfall / (N x R x R x 2f), in whole milliseconds, rounded down). The exact shortfalls of a,
+b and c add up to the whole; their seconds, each rounded down by itself, may be less. In JSON they are shortfall_a, shortfall_b
+and shortfall_c, in CSV, as in the site's file, shortfall-a, shortfall-b and shortfall-c.
+
+A site's file of version 1 or 2 was kept before shortfalls were counted by channel. Every command that reads a site tells so,
+with exit status 2, and leaves it: new and add make the site anew from its recordings.
 
 Example:
     burrcradle show depot.site
@@ -143,8 +151,8 @@ pub const EXPLAIN: &str = "\
 burrcradle explain RECORDING... (--site SITE | --n N --r R --f F [--sag 90] [--interruption 10] [--swell 110]
                 [--hysteresis 2]) [--cut] [--raw] [--json | --csv]
 
-Tells each event in words: which channels launched it and how far they went, its peak, which condition ended it, and how its
-score comes about, or why it has none.
+Tells each event in words: which channels launched it and how far they went, its peak, which condition ended it, how its score
+comes about, or why it has none, and what each channel lost.
 
 Example:
     burrcradle explain monday.csv --site depot.site

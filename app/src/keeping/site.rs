@@ -1,6 +1,6 @@
-//! A site's file: a version line, then the table's 56 numbers by name, one to a line. It is replaced as a whole, so that
-//! a kill at any moment leaves the old or the new table, and a file that makes no sense is never written over. A file of
-//! version 1 is read as it was meant, and the next `add` writes it in this version.
+//! A site's file: a version line, then the table's 59 numbers by name, one to a line. It is replaced as a whole, so that
+//! a kill at any moment leaves the old or the new table, and a file that makes no sense is never written over. Nor is one of
+//! an earlier version: it lacks what each channel lost, and nothing in it tells that.
 use super::beside::{self, Beside};
 use crate::{
     answered::table,
@@ -16,37 +16,22 @@ use std::{
     time::{Duration, Instant},
 };
 
-const VERSION: &str = "burrcradle site 2";
+/// The version line: this, and then the version.
+const KEPT: &str = "burrcradle site ";
+const VERSION: &str = "3";
 
-/// Version 1 had one number more, after the swells: interruptions outside any sag, of which there are none.
-const VERSION_1: &str = "burrcradle site 1";
-const VERSION_1_ONLY: &str = "stray";
-
-/// The numbers of a file by name, in the order of its version.
-type Numbers = Vec<(String, u64)>;
+/// The versions from before shortfalls were counted by channel.
+const EARLIER: [&str; 2] = ["1", "2"];
 
 /// The table of a site's file, which the library finds sound.
 pub fn load(path: &Path) -> Result<Table, Failure> {
     let name = path.display().to_string();
     let bytes = fs::read(path).map_err(|e| Failure::file(&name, e))?;
-    let numbers = parse(&bytes).map_err(|why| Failure::file(&name, why))?;
-    let table = today(numbers).and_then(sound);
-    table.map_err(|refused| {
+    let table = parse(&bytes).map_err(|why| Failure::file(&name, why))?;
+    sound(table).map_err(|refused| {
         let more = "the file is damaged or was edited, and is left as it is".to_string();
         Failure::Refused(Refusal { what: name, refused, more })
     })
-}
-
-/// The table that a file's numbers are. What version 1 had besides goes, and is held to what it had to be: no more than the
-/// interruptions, or the table was unsound.
-fn today(mut numbers: Numbers) -> Result<Table, Refused> {
-    let left_out = numbers.iter().position(|(name, _)| name == VERSION_1_ONLY).map(|at| numbers.remove(at).1);
-    let mut table = [0; TABLE];
-    table.iter_mut().zip(numbers).for_each(|(word, (_, number))| *word = number);
-    match left_out {
-        Some(count) if count > table::counts(&table).interruptions => Err(Refused { number: 9, place: 0 }),
-        _ => Ok(table),
-    }
 }
 
 /// Asks the library to add no samples at all: an unsound table is refusal 9, and to a sound one that is refusal 3.
@@ -57,23 +42,23 @@ fn sound(table: Table) -> Result<Table, Refused> {
     }
 }
 
-/// The names of a version's numbers, in order; none where there is no such version.
-fn names(version: &str) -> Option<Vec<String>> {
-    let mut names = table::names();
-    match version {
-        VERSION => {}
-        VERSION_1 => {
-            let swells = names.iter().position(|name| name == "swells")?;
-            names.insert(swells + 1, VERSION_1_ONLY.into());
+/// Why a file with this version line can't be read; nothing where it can.
+fn unreadable(line: &str) -> Option<String> {
+    match line.strip_prefix(KEPT) {
+        Some(VERSION) => None,
+        Some(earlier) if EARLIER.contains(&earlier) => Some(format!(
+            "line 1: a site's file of version {earlier}, kept before shortfalls were counted by channel. What each channel lost \
+             can't be worked out from it, and it is left as it is: `burrcradle new`, under another name, and `burrcradle add` \
+             make the site anew from its recordings"
+        )),
+        _ => {
+            Some(format!("line 1: {line:?} where \"{KEPT}{VERSION}\" is wanted: no site's file, or of another version"))
         }
-        _ => return None,
     }
-    Some(names)
 }
 
-/// Reads what `render` writes, or wrote in version 1, and nothing else: a value in other digits or a line cut
-/// short is an error.
-fn parse(bytes: &[u8]) -> Result<Numbers, String> {
+/// Reads what `render` writes and nothing else: a value in other digits or a line cut short is an error.
+fn parse(bytes: &[u8]) -> Result<Table, String> {
     let text = String::from_utf8_lossy(bytes);
     let mut lines = text.split_inclusive('\n').enumerate().map(|(at, line)| (at + 1, line));
     let mut next = |wanted: &str| match lines.next() {
@@ -84,21 +69,18 @@ fn parse(bytes: &[u8]) -> Result<Numbers, String> {
         None => Err(format!("the file ends where {wanted} is wanted")),
     };
     let (_, version) = next("the version line")?;
-    let Some(names) = names(&version) else {
-        return Err(format!(
-            "line 1: {version:?} where {VERSION:?} or {VERSION_1:?} is wanted: no site's file, or of another version"
-        ));
-    };
-    let mut numbers = Numbers::new();
-    for name in names {
+    if let Some(why) = unreadable(&version) {
+        return Err(why);
+    }
+    let mut table = [0; TABLE];
+    for (word, name) in table.iter_mut().zip(table::names()) {
         let (at, line) = next(&name)?;
-        let number = value(&line, &name).map_err(|why| format!("line {at}: {why}"))?;
-        numbers.push((name, number));
+        *word = value(&line, &name).map_err(|why| format!("line {at}: {why}"))?;
     }
     match next("nothing more") {
         Ok((at, line)) => Err(format!("line {at}: {line:?} after the last number")),
         Err(why) if why.starts_with("line") => Err(why),
-        Err(_) => Ok(numbers),
+        Err(_) => Ok(table),
     }
 }
 
@@ -112,7 +94,7 @@ fn value(line: &str, name: &str) -> Result<u64, String> {
 }
 
 fn render(table: &Table) -> String {
-    let mut text = format!("{VERSION}\n");
+    let mut text = format!("{KEPT}{VERSION}\n");
     for (name, word) in table::names().iter().zip(table) {
         text.push_str(&format!("{name} {word}\n"));
     }

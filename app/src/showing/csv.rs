@@ -41,13 +41,15 @@ const EVENT: [&str; 20] = [
 ];
 
 /// The events of recordings, one to a line, each with its recording's half-cycles and with the ends that a cut has taken (1
-/// for the start plus 2 for the end); severity and energy are empty where there is no score. A recording without events has one line too, of kind 0: what nobody saw must not vanish. `told`
-/// adds the sentences of `explain`.
+/// for the start plus 2 for the end); severity and energy are empty where there is no score. A recording without events has one line
+/// too, of kind 0: what nobody saw must not vanish. `told` adds the sentences of `explain`.
 pub fn events(s: &Settings, answers: &[Answer], told: bool) -> String {
     let mut head = [&RECORDING[..], &EVENT].concat();
     if told {
         head.extend(explain::LABELS);
     }
+    // Behind all else, so that no column that was there before has moved.
+    head.extend(words::BY_CHANNEL);
     let mut out = line(&head.iter().map(|name| name.to_string()).collect::<Vec<_>>());
     for answer in answers {
         let c = answer.counts();
@@ -62,6 +64,7 @@ pub fn events(s: &Settings, answers: &[Answer], told: bool) -> String {
             if told {
                 fields.extend(explain::told(s, answer, event));
             }
+            fields.extend(event.by_channel.map(|part| part.to_string()));
             row(fields);
         }
         if answer.events().next().is_none() {

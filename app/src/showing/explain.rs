@@ -1,4 +1,4 @@
-//! Each event in sentences: its launch, peak and landing, and why it has or has no score.
+//! Each event in sentences: its launch, peak and landing, why it has or has no score, and what each channel lost.
 use super::words::{self, CHANNELS};
 use crate::answered::{
     level::{against, borders, reference},
@@ -8,10 +8,10 @@ use host::Settings;
 use std::cmp::Ordering;
 
 /// What the sentences of an event are about.
-pub const LABELS: [&str; 4] = ["launch", "peak", "landing", "score"];
+pub const LABELS: [&str; 5] = ["launch", "peak", "landing", "score", "loss"];
 
-/// An event's launch, peak, landing and score, a sentence each; nothing of one that was not looked at closely.
-pub fn told(s: &Settings, answer: &Answer, event: &Found) -> [String; 4] {
+/// An event's launch, peak, landing, score and loss, a sentence each; nothing of one that was not looked at closely.
+pub fn told(s: &Settings, answer: &Answer, event: &Found) -> [String; 5] {
     let Some(close) = &event.close else { return Default::default() };
     let taken = Taken { ends: answer.lost(event), piece: answer.is_piece(event) };
     [
@@ -19,6 +19,7 @@ pub fn told(s: &Settings, answer: &Answer, event: &Found) -> [String; 4] {
         peak(s, event, close),
         landing(s, event, close, taken),
         score(s, event, close, taken),
+        loss(s, event, taken),
     ]
 }
 
@@ -38,6 +39,15 @@ impl Taken {
                 words::kind(event.kind)
             ),
             false => format!("the recording is cut there, so the {end} is unseen"),
+        }
+    }
+
+    /// What stands before figures that are not the whole event's.
+    fn whose(&self) -> &'static str {
+        if self.piece {
+            "of this piece alone: "
+        } else {
+            ""
         }
     }
 }
@@ -168,10 +178,10 @@ fn ended(s: &Settings, kind: u64, sums: [u64; 3]) -> String {
 
 fn score(s: &Settings, event: &Found, close: &Close, taken: Taken) -> String {
     let (Some(score), Some(curve)) = (event.score, close.curve) else { return no_score(s, event, taken) };
-    let whose = if taken.piece { "of this piece alone: " } else { "" };
     format!(
-        "{whose}severity (1000 - {}) / (1000 - {curve}) = {:.3}: retained {}, and {curve} is the curve's value for {}; energy {:.3} s: \
+        "{}severity (1000 - {}) / (1000 - {curve}) = {:.3}: retained {}, and {curve} is the curve's value for {}; energy {:.3} s: \
          shortfall {} / ({} x {} x {} x 2 x {}), rounded down to milliseconds; cell {}: {}, {}.",
+        taken.whose(),
         event.retained,
         score.severity,
         event.retained,
@@ -219,5 +229,24 @@ fn no_score(s: &Settings, event: &Found, taken: Taken) -> String {
         "{why}; {there}, so neither severity nor cell is given (shortfall {} = {} s is what was seen).",
         event.shortfall,
         words::shortfall_seconds(s, event.shortfall)
+    )
+}
+
+/// What each channel lost. The exact parts stand beside it: they add up, and what is rounded down need not.
+fn loss(s: &Settings, event: &Found, taken: Taken) -> String {
+    if event.kind != 1 {
+        return "not counted: only a sag has a shortfall.".into();
+    }
+    let ([a, b, c], [of_a, of_b, of_c]) = (words::losses(s, event), event.by_channel);
+    let seen = if event.seen_whole() { "" } else { "; only what was seen is counted" };
+    format!(
+        "{}channel a lost {a}, b {b}, c {c}: {of_a} + {of_b} + {of_c} = shortfall {}, each / ({} x {} x {} x 2 x {}), rounded \
+         down to milliseconds by itself{seen}.",
+        taken.whose(),
+        event.shortfall,
+        s.n,
+        s.r,
+        s.r,
+        s.f
     )
 }

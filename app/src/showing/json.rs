@@ -136,7 +136,13 @@ fn event(s: &Settings, answer: &Answer, e: &Found, told: bool) -> Json {
         let sentences = explain::told(s, answer, e).map(|sentence| Json::text(&sentence));
         fields.extend(explain::LABELS.into_iter().zip(sentences));
     }
+    fields.extend(by_channel(e.by_channel));
     Json::Object(fields)
+}
+
+/// The shortfalls of a, b and c, which make up the shortfall: exact, since seconds that are rounded down do not.
+fn by_channel(parts: [u64; 3]) -> impl Iterator<Item = (&'static str, Json)> {
+    words::BY_CHANNEL.into_iter().zip(parts.map(Json::whole))
 }
 
 fn halves(c: &Counts) -> Json {
@@ -157,7 +163,7 @@ pub fn settings(s: &Settings) -> Json {
 pub fn table(table: &Table) -> Json {
     let (s, c) = (table::settings(table), table::counts(table));
     let row = |counts: &[u64]| Json::List(counts.iter().map(|count| Json::whole(*count)).collect());
-    Json::Object(vec![
+    let mut fields = vec![
         ("settings", settings(&s)),
         ("half_cycles", halves(&c)),
         ("cells", Json::List(table::cells(table).chunks(8).map(row).collect())),
@@ -167,7 +173,9 @@ pub fn table(table: &Table) -> Json {
         ("swells", Json::whole(c.swells)),
         ("shortfall", Json::whole(c.shortfall)),
         ("shortfall_seconds", Json::Number(words::shortfall_seconds(&s, c.shortfall))),
-    ])
+    ];
+    fields.extend(by_channel(c.by_channel));
+    Json::Object(fields)
 }
 
 /// What was turned away, and why.

@@ -76,7 +76,7 @@ pub fn cut_note(s: &Settings, answer: &Answer) -> String {
     format!("{} is cut into {} parts.\n{}\n", answer.name, answer.parts.len(), wrapped(&said, ""))
 }
 
-const LIST: [&str; 14] = [
+const LIST: [&str; 17] = [
     "no",
     "kind",
     "start",
@@ -90,8 +90,15 @@ const LIST: [&str; 14] = [
     "type",
     "severity",
     "energy",
+    "a lost",
+    "b lost",
+    "c lost",
     "cell",
 ];
+
+/// Why three figures may not make up the fourth, for whoever adds them.
+const ROUNDED: &str =
+    "  What a, b and c lost is rounded down each by itself: together it may be less than the energy.\n";
 
 /// The events of a recording.
 pub fn list(s: &Settings, answer: &Answer, paint: &Paint) -> String {
@@ -101,7 +108,10 @@ pub fn list(s: &Settings, answer: &Answer, paint: &Paint) -> String {
         if !part.events.is_empty() {
             let rows: Vec<_> =
                 part.events.iter().enumerate().map(|(at, e)| row(s, at, e, words::cut(answer, e))).collect();
-            out += &columns(&LIST, &rows, &[1, 6, 10, 13], paint);
+            out += &columns(&LIST, &rows, &[1, 6, 10, 16], paint);
+            if part.events.iter().any(|event| words::rounds_apart(s, event)) {
+                out += ROUNDED;
+            }
         }
     }
     out
@@ -117,12 +127,23 @@ fn row(s: &Settings, at: usize, event: &Found, cut: &str) -> Vec<String> {
         _ => ["-".into(), "-".into()],
     });
     row.extend(match event.score {
-        Some(score) => {
-            [format!("{:.3}", score.severity), format!("{:.3} s", score.energy), format!("{}{cut}", event.cell)]
-        }
-        None => ["none".into(), "none".into(), format!("none: {}{cut}", words::reason(event.reason))],
+        Some(score) => [format!("{:.3}", score.severity), format!("{:.3} s", score.energy)],
+        None => ["none".into(), "none".into()],
+    });
+    row.extend(match event.kind {
+        1 => words::losses(s, event).map(short),
+        _ => ["-", "-", "-"].map(String::from),
+    });
+    row.push(match event.score {
+        Some(_) => format!("{}{cut}", event.cell),
+        None => format!("none: {}{cut}", words::reason(event.reason)),
     });
     row
+}
+
+/// Words for a narrow column.
+fn short(loss: String) -> String {
+    loss.replace("at least", ">=").replace("more than", ">").replace("less than", "<")
 }
 
 /// The events of a recording in words.
@@ -146,13 +167,18 @@ pub fn explained(s: &Settings, answer: &Answer, paint: &Paint) -> String {
 pub fn table(name: &str, table: &Table, paint: &Paint) -> String {
     let (s, c) = (table::settings(table), table::counts(table));
     let mut out = format!("{}: {}\n", paint.bold(name), words::settings(&s));
+    let shortfall = |shortfall: u64| format!("{shortfall} = {}", words::shortfall(&s, shortfall));
+    let [of_a, of_b, of_c] = c.by_channel.map(shortfall);
     let lines = [
         ("half-cycles", format!("{} ({})", c.total, words::seconds(c.total, s.f))),
         ("", format!("{} healthy, {} disturbed, {} unknown", c.healthy, c.disturbed, c.unknown)),
         ("sags", format!("{} ({} unplaced)", c.sags, c.unplaced)),
         ("interruptions", c.interruptions.to_string()),
         ("swells", c.swells.to_string()),
-        ("shortfall", format!("{} = {} s", c.shortfall, words::shortfall_seconds(&s, c.shortfall))),
+        ("shortfall", shortfall(c.shortfall)),
+        ("  channel a", of_a),
+        ("  channel b", of_b),
+        ("  channel c", of_c),
     ];
     for (label, told) in lines {
         out += &format!("  {label:<13}  {told}\n");

@@ -23,6 +23,9 @@ const MEANINGS: [(&str, &str); 7] = [
 /// The channels, in the order of the samples.
 pub const CHANNELS: [&str; 3] = ["a", "b", "c"];
 
+/// The shortfalls of the channels, as programs read them.
+pub const BY_CHANNEL: [&str; 3] = ["shortfall_a", "shortfall_b", "shortfall_c"];
+
 /// What is said behind an event that a cut has split or that it has taken an end of.
 pub fn cut(answer: &Answer, event: &Found) -> &'static str {
     match (answer.is_piece(event), answer.lost(event)) {
@@ -52,7 +55,7 @@ fn refusal(refused: &Refused) -> String {
         4 => "L, the samples per channel, is not a multiple of N/2".into(),
         5 => "H, the number of half-cycles, is above 100,000".into(),
         6 => format!("a sample is out of range, the first at index {place} in the run"),
-        7 => format!("the room is below 8 x the number of events, which is {place}"),
+        7 => format!("the room is below 11 x the number of events, which is {place}"),
         8 => format!("total + H is above 4,000,000; {place} half-cycles are left"),
         9 => "the table offered is unsound".into(),
         other => format!("the library gave refusal {other}, for which this program has no words"),
@@ -157,11 +160,42 @@ pub fn exact_seconds(halves: u64, f: u64) -> f64 {
     halves as f64 / (2 * f) as f64
 }
 
-/// A shortfall as seconds: whole milliseconds, rounded down, of 1000 x shortfall / (N x R x R x 2f).
-pub fn shortfall_seconds(s: &Settings, shortfall: u64) -> String {
+/// A shortfall, whole or a channel's, in milliseconds, rounded down: 1000 x shortfall / (N x R x R x 2f).
+fn milliseconds(s: &Settings, shortfall: u64) -> u128 {
     let second = reference(s) * u128::from(2 * s.f);
-    let ms = 1000 * u128::from(shortfall) / second.max(1);
+    1000 * u128::from(shortfall) / second.max(1)
+}
+
+/// The same as seconds.
+pub fn shortfall_seconds(s: &Settings, shortfall: u64) -> String {
+    let ms = milliseconds(s, shortfall);
     format!("{}.{:03}", ms / 1000, ms % 1000)
+}
+
+/// The same for people: what is not nothing never reads as 0.
+pub fn shortfall(s: &Settings, shortfall: u64) -> String {
+    match milliseconds(s, shortfall) {
+        0 if shortfall > 0 => "less than 0.001 s".into(),
+        _ => format!("{} s", shortfall_seconds(s, shortfall)),
+    }
+}
+
+/// What each channel lost in a sag. `nothing` is said only of a sag that somebody saw whole: of any other it is known only what a
+/// channel lost at least.
+pub fn losses(s: &Settings, event: &Found) -> [String; 3] {
+    event.by_channel.map(|part| match (event.seen_whole(), part, milliseconds(s, part)) {
+        (true, 0, _) => "nothing".into(),
+        (true, ..) => shortfall(s, part),
+        (false, 0, _) => "at least 0 s".into(),
+        (false, _, 0) => "more than 0 s".into(),
+        (false, ..) => format!("at least {}", shortfall(s, part)),
+    })
+}
+
+/// Whether what the channels lost, rounded down each, makes less than the energy.
+pub fn rounds_apart(s: &Settings, event: &Found) -> bool {
+    let parts = event.by_channel.iter().map(|part| milliseconds(s, *part));
+    event.score.is_some() && parts.sum::<u128>() < milliseconds(s, event.shortfall)
 }
 
 /// A retained value in percent of R, always with its tenth: `90.0 %` is rounded, where a threshold of 90 % is exact.

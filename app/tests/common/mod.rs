@@ -104,18 +104,22 @@ impl Folder {
         line.unwrap_or_else(|| panic!("no {name} in {told}")).parse().unwrap()
     }
 
-    /// The events of a recording: kind, start, end, seen, extreme, retained, shortfall, type; reason and cell; severity
-    /// and energy as they are written.
+    /// The events of a recording: their eleven numbers, reason and cell; severity and energy as they are written.
     pub fn events(&self, file: &str, more: &[&str]) -> Vec<(Vec<u64>, String)> {
         listed(&self.accepted(&[&["list", file, "--csv"][..], &KNOWN, more].concat()))
     }
 }
 
+/// An event's eleven numbers, in the order of the rules.
+#[rustfmt::skip]
+pub const EVENT: [&str; 11] = [
+    "kind", "start", "end", "seen", "extreme", "retained", "shortfall", "type", "shortfall_a", "shortfall_b", "shortfall_c",
+];
+
 /// The events of a list in CSV; the rows of recordings without events are left out.
 pub fn listed(csv: &str) -> Vec<(Vec<u64>, String)> {
-    let names = ["kind", "start", "end", "seen", "extreme", "retained", "shortfall", "type", "reason", "cell"];
     let event = |row: Row| {
-        let numbers = names.iter().map(|name| row.number(name)).collect();
+        let numbers = EVENT.iter().chain(&["reason", "cell"]).map(|name| row.number(name)).collect();
         (numbers, format!("{} {}", row.field("severity"), row.field("energy")))
     };
     rows(csv).into_iter().filter(|row| row.field("kind") != "0").map(event).collect()
@@ -169,4 +173,14 @@ pub fn raw(samples: &[i32]) -> Vec<u8> {
 /// Six blocks with a sag to half the voltage in the middle.
 pub fn k2() -> Vec<i32> {
     blocks(&[1000, 1000, 500, 500, 1000, 1000])
+}
+
+/// Blocks of four equal samples, each channel at a level of its own.
+pub fn levels(levels: &[[i32; 3]]) -> Vec<i32> {
+    levels.iter().flat_map(|three| [*three; 4]).flatten().collect()
+}
+
+/// Six blocks with the channels at these levels in the two of the middle, and at 1000 before and after.
+pub fn dip(low: [i32; 3]) -> Vec<i32> {
+    levels(&[[1000; 3], [1000; 3], low, low, [1000; 3], [1000; 3]])
 }

@@ -56,9 +56,10 @@ const HATCH: &str = "<svg class=\"defs\" aria-hidden=\"true\"><defs><pattern id=
 
 const FOOT: &str = "<footer>Events, scores, reasons, cells and counts are the proved library's answers. The curves are drawn \
                     from the samples. Durations are half-cycles / 2f; a shortfall in seconds is shortfall / (N x R x R x 2f), \
-                    in whole milliseconds, rounded down. A retained value is the nearest tenth of a percent of R, \
-                    halves upward; thresholds and rows go by exact sums and not by it. A recording's SHA-256 is what \
-                    <code>sha256sum</code> says of its file.</footer>\n";
+                    in whole milliseconds, rounded down. What a channel lost is its part of the shortfall, rounded down by \
+                    itself: the three together may be less than the whole. A retained value is the nearest tenth of a \
+                    percent of R, halves upward; thresholds and rows go by exact sums and not by it. A recording's SHA-256 \
+                    is what <code>sha256sum</code> says of its file.</footer>\n";
 
 fn tile(value: &str, label: &str, more: &str) -> String {
     format!("<div class=\"tile\"><b>{}</b><span>{}</span><i>{}</i></div>", esc(value), esc(label), esc(more))
@@ -72,18 +73,30 @@ fn site_section(s: &Settings, contents: &Contents) -> String {
         tile(&c.sags.to_string(), "sags", &format!("{} unplaced", c.unplaced)),
         tile(&c.interruptions.to_string(), "interruptions", ""),
         tile(&c.swells.to_string(), "swells", ""),
-        tile(&format!("{} s", words::shortfall_seconds(s, c.shortfall)), "shortfall", &c.shortfall.to_string()),
+        tile(&words::shortfall(s, c.shortfall), "shortfall", &c.shortfall.to_string()),
     ]);
     format!(
-        "<section><h2>The site's table</h2><p class=\"note\">{}</p><div class=\"tiles\">{}</div>\n<h3>Half-cycles</h3>{}\n\
+        "<section><h2>The site's table</h2><p class=\"note\">{}</p><div class=\"tiles\">{}</div>\n\
+         <h3>Shortfall by channel</h3>{}\n<h3>Half-cycles</h3>{}\n\
          <h3>Sags by depth and duration</h3>{}\n<p class=\"note\">Rows by the smallest voltage that was left, columns by \
          duration. A sag with an unseen end has no cell: {} unplaced.</p></section>\n",
         esc(&relation(contents)),
         tiles.concat(),
+        by_channel(s, &c),
         drawn::bar(contents.table),
         drawn::heat(contents.table),
         c.unplaced
     )
+}
+
+/// What each channel lost, in the colour of its curve.
+fn by_channel(s: &Settings, c: &Counts) -> String {
+    let told = |(name, part): (&str, u64)| {
+        let (seconds, part) = (esc(&words::shortfall(s, part)), part.to_string());
+        format!("<div class=\"tile {name}\"><b>{seconds}</b><span>channel {name}</span><i>{part}</i></div>")
+    };
+    let tiles: String = words::CHANNELS.into_iter().zip(c.by_channel).map(told).collect();
+    format!("<div class=\"tiles\">{tiles}</div>")
 }
 
 /// Unknown time, big enough not to be missed, wherever there is any.
@@ -235,8 +248,19 @@ fn events_table(s: &Settings, answer: &Answer, part: &Part, c: &Counts) -> Strin
         let said = if c.unknown > 0 { words::no_event(c) } else { "No event.".into() };
         return format!("<p class=\"{}\">{}</p>\n", if c.unknown > 0 { "unseen" } else { "note" }, esc(&said));
     }
-    let head =
-        ["", "kind", "launch", "landing", "lasted", "seen", "retained", "severity", "energy", "cell, or why no score"];
+    let head = [
+        "",
+        "kind",
+        "launch",
+        "landing",
+        "lasted",
+        "seen",
+        "retained",
+        "severity",
+        "energy",
+        "lost",
+        "cell, or why no score",
+    ];
     let mut out = "<div class=\"scroll\"><table><thead><tr>".to_string();
     out += &head.map(|name| format!("<th>{name}</th>")).concat();
     out += "</tr></thead><tbody>\n";
@@ -269,11 +293,21 @@ fn event_row(s: &Settings, number: usize, event: &Found, cut: &str) -> String {
     };
     format!(
         "<tr><td>{number}</td><td><b class=\"{kind}\">{kind}</b>{class}</td><td>{}</td><td>{}</td><td>{}</td><td>{}</td>\
-         <td>{}</td><td>{severity}</td><td>{energy}</td><td>{last}</td></tr>\n",
+         <td>{}</td><td>{severity}</td><td>{energy}</td><td>{}</td><td>{last}</td></tr>\n",
         when(event.start),
         when(event.end),
         words::seconds(event.halves(), s.f),
         words::seen(event.seen),
         words::retained(event.retained),
+        losses(s, event),
     )
+}
+
+/// What each channel lost in a sag, one below the other: three columns more would not fit the paper.
+fn losses(s: &Settings, event: &Found) -> String {
+    if event.kind != 1 {
+        return "-".into();
+    }
+    let told = |(name, loss): (&str, String)| format!("<i>{name} {}</i>", esc(&loss));
+    words::CHANNELS.into_iter().zip(words::losses(s, event)).map(told).collect()
 }
