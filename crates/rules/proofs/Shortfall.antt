@@ -23,7 +23,8 @@ use Rattle.rules.specs.declared.Kind.{Kind}
 use Rattle.rules.specs.declared.Kind.the-variants.{Sag, Interruption, Swell}
 use Rattle.rules.proofs.Adding.{sum-plus, sum-none}
 use Rattle.rules.proofs.Bounded.{sum-same}
-use Rattle.rules.proofs.Longest.{isStart, first-low, in-known}
+use Rattle.rules.proofs.Choices.{lower}
+use Rattle.rules.proofs.Longest.{isStart, first-low, in-known, unbroken, half-past}
 use Rattle.rules.proofs.Runs.{first-go, first-stop, first-end}
 use Rattle.rules.proofs.Samples.{known-is}
 
@@ -156,6 +157,23 @@ module _ (s : Settings) (xs : List ℤ) where
       of-cond-same : (b : Bool) (x y : ℕ) → (b ≡ true → x ≡ y) → cond b x 0 ≡ cond b y 0
       of-cond-same true x y q = q refl
       of-cond-same false x y q = refl
+
+  -- THE LAW: what a sag's event says of a channel is the sum over the sag's half-cycles, straight from the channel's samples
+  pub sag-part-is : (c : ℕ) → c < 3 → (a : ℕ) → starts s (halfAt s xs) Sag a ≡ true
+      → ofChannel c (eventFrom s xs Sag a .parts) ≡ sumFrom (λ k. shortOf s (squares s xs k c)) a (eventFrom s xs Sag a .end)
+  unfolding eventFrom
+  sag-part-is c l a begun =
+      let h = halfAt s xs in
+      let n = halvesOf s xs in
+      let e = endOf s h n Sag a in
+      of-channels (λ c. ofChannel c (shortsOf s h a e)) c l
+      ∙ one-channel s h c a e
+      ∙ sum-same (λ k. cond (ltb k a) 0 (ofChannel c (shorts s (h k)))) (λ k. cond (ltb k a) 0 (shortOf s (squares s xs k c))) e
+      (λ k u.
+      ⊎-elim
+      (λ v. rw (lt-ltb k a v))
+      (λ v. rw (le-ltb k a v, known-short s xs c k l (in-known s h Sag k (unbroken s h n (half-past s xs) Sag a begun k v u))))
+      (lower k a))
 
   -- an event's shortfall is what the channels' make up
   pub event-made-up : (kind : Kind) (a : ℕ) → three (eventFrom s xs kind a .parts) ≡ eventFrom s xs kind a .shortfall

@@ -39,17 +39,17 @@ tells : (s : Settings) (e : Event) (r : ℕ) (made-up by-kind : Bool) → inBoun
 unfolding isEvent
 tells s e r made-up by-kind b q m k = rw (b, q, m, k)
 
+told : (c : tie.After-retained) (by-kind : Bool) → let x = c .before .before .before .before .before .args in
+    by-kind ≡ cond (isSag (x .e)) (sagGood (x .s) (x .e)) (otherGood (x .e))
+    → eqb (x .e .retained) (c .retained .result) && c .before .adds-up .result && by-kind ≡ isEvent (x .s) (x .e)
+told c by-kind k =
+    tells _ _ _ _ by-kind (bounds (c .before .before .before)) (c .retained .ensures) (c .before .adds-up .ensures) k
+
 returns-2 : tie.Need-returns-2
-returns-2 c =
-    let p = c .before .before .before .before in
-    tells _ _ _ _ _ (bounds (p .before .before .before)) (p .retained .ensures) (p .before .adds-up .ensures)
-    (c .sag-good .ensures ∙ sym (rw (eq-eqb _ _ (c .before .if2 .taken))))
+returns-2 c = told (c .before .before .before .before) _ (c .sag-good .ensures ∙ sym (rw (eq-eqb _ _ (c .before .if2 .taken))))
 
 returns-3 : tie.Need-returns-3
-returns-3 c =
-    let p = c .before .before .before .before .before in
-    tells _ _ _ _ _ (bounds (p .before .before .before)) (p .retained .ensures) (p .before .adds-up .ensures)
-    (sym (rw (ne-eqb _ _ (c .before .before .if2 .left))))
+returns-3 c = told (c .before .before .before .before .before) _ (sym (rw (ne-eqb _ _ (c .before .before .if2 .left))))
 
 pub is-event-spec : {M : Type 1} → statement M
 is-event-spec =
