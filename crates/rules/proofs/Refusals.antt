@@ -413,7 +413,7 @@ module _ (w out : List ℕ) (fits : length w ≤ length out) where
       ap (λ (x : ℕ). getD (w ++ drop (length w) out) x d) q ∙ getD-append-add w (drop (length w) out) (i - length w) d
       ∙ getD-drop (length w) out (i - length w) d ∙ ap (λ (x : ℕ). getD out x d) (sym q)
 
--- the eight numbers of event i, in the events' own run
+-- the eleven numbers of event i, in the events' own run
 words-at : (es : List Event) (d : Event) (i : ℕ) → i < length es → take 11 (drop (11 * i) (flat es)) ≡ wordsOf (getD es i d)
 words-at [] d i l = absurd (omega arith)
 words-at (e ∷ es) d zero l = refl
