@@ -48,17 +48,17 @@ fn gap() -> Vec<i32> {
 
 /// 15 + 12 + 2 is not 30: the list says why.
 #[test]
-fn the_list_has_a_column_for_each_channel() {
+fn the_list_has_a_figure_for_each_channel() {
     let folder = Folder::new("channels-list");
     let wanted = "\
 k.csv: 5 half-cycles (0.050 s): 2 healthy, 3 disturbed, 0 unknown; 1 event
-  no  kind  start  end       at   lasted  seen  extreme  retained  shortfall  type  severity   energy   a lost   b lost   c lost  cell
-   1  sag       1    4  0.010 s  0.030 s  both  2000000       500   24044800  Cc       1.000  0.030 s  0.015 s  0.012 s  0.002 s  17
+  no  kind  start  end       at   lasted  seen  extreme  retained  shortfall  type  ms lost a / b / c  severity   energy  cell
+   1  sag       1    4  0.010 s  0.030 s  both  2000000       500   24044800  Cc          15 / 12 / 2     1.000  0.030 s  17
   What a, b and c lost is rounded down each by itself: together it may be less than the energy.
 ";
     assert_eq!(said(&folder, "list", &three(), &[]), wanted);
     let even = said(&folder, "list", &dip([500, 1000, 1000]), &[]);
-    says(&even, &["  0.015 s  0.015 s  nothing  nothing  17\n"]);
+    says(&even, &["  15 / 0 / 0     1.000  0.015 s  17\n"]);
     assert!(!even.contains("rounded"), "where they make up the energy nothing is said: {even}");
 }
 
@@ -68,11 +68,7 @@ fn interruptions_and_swells_have_no_parts() {
     let folder = Folder::new("channels-kinds");
     let samples = blocks(&[1000, 1000, 0, 0, 1000, 1000, 1200, 1200, 1000, 1000]);
     let told = said(&folder, "list", &samples, &[]);
-    assert_eq!(
-        told.matches("  -  -         none     none        -        -        -  none: not a sag\n").count(),
-        2,
-        "{told}"
-    );
+    assert_eq!(told.matches("  -  -                     -  none: not a sag\n").count(), 2, "{told}");
     let rows = rows(&said(&folder, "list", &samples, &["--csv"]));
     let parts = |at: usize| ["kind", "shortfall_a", "shortfall_b", "shortfall_c"].map(|name| rows[at].number(name));
     // 4,000,000, 8,000,000 and 4,000,000 short on each.
@@ -102,7 +98,7 @@ fn explain_says_which_channel_lost_what() {
 fn less_than_a_millisecond_is_not_nothing() {
     let (folder, low) = (Folder::new("channels-short"), ["--sag", "95"]);
     let told = said(&folder, "list", &shallow(500), &low);
-    says(&told, &["  0.015 s  0.015 s  nothing  < 0.001 s  17\n"]);
+    says(&told, &["  15 / 0 / <1     1.000  0.015 s  17\n"]);
     says(
         &explained(&folder, &shallow(500), &low),
         &["channel a lost 0.015 s, b nothing, c less than 0.001 s: 12000000 + 0 + 795192 = shortfall 12795192, each"],
@@ -132,10 +128,7 @@ fn of_what_nobody_saw_nothing_good_is_said() {
     let list = said(&folder, "list", &gap(), &[]);
     says(
         &list,
-        &[
-            "    none  >= 0.011 s  >= 0 s  >= 0 s  none: only the end unseen\n",
-            "    none  >= 0.003 s  >= 0 s  >= 0 s  none: only the start unseen\n",
-        ],
+        &["  >=11 / >=0 / >=0  none: only the end unseen\n", "   >=3 / >=0 / >=0  none: only the start unseen\n"],
     );
     let told = explained(&folder, &gap(), &[]);
     let counted =
@@ -160,13 +153,13 @@ fn of_what_nobody_saw_nothing_good_is_said() {
     // The recording begins in the sag: c lost something, and who knows how much.
     let (low, good) = ([1000, 1000, 949], [1000; 3]);
     let begun = levels(&[low, low, good, good]);
-    says(
-        &said(&folder, "list", &begun, &["--sag", "95"]),
-        &["    none  >= 0 s  >= 0 s   > 0 s  none: only the start unseen\n"],
-    );
+    says(&said(&folder, "list", &begun, &["--sag", "95"]), &["  >=0 / >=0 / >0  none: only the start unseen\n"]);
     says(
         &explained(&folder, &begun, &["--sag", "95"]),
-        &["channel a lost at least 0 s, b at least 0 s, c more than 0 s: 0 + 0 + 795192 = shortfall 795192, each"],
+        &[
+            "channel a lost at least 0 s, b at least 0 s, c more than 0 s: 0 + 0 + 795192 = shortfall 795192, each",
+            "neither severity nor cell is given (shortfall 795192 = less than 0.001 s is what was seen).",
+        ],
     );
 }
 
@@ -211,13 +204,61 @@ fn the_table_has_three_figures() {
     says(
         &folder.accepted(&["show", "x.site"]),
         &["  shortfall      36044800 = 0.045 s\n    channel a    24000000 = 0.030 s\n    channel b    10240000 = 0.012 s\n    \
-           channel c    1804800 = 0.002 s\n"],
+           channel c    1804800 = 0.002 s\n                 only what was seen is counted\n\n"],
     );
     let csv = folder.accepted(&["show", "x.site", "--csv"]);
     assert!(
         csv.ends_with("\nshortfall,36044800\nshortfall-a,24000000\nshortfall-b,10240000\nshortfall-c,1804800\n"),
         "{csv}"
     );
+}
+
+/// b and c show 0 where a sample was lost or an end unseen: nobody saw that they lost nothing, and table and page say so.
+#[test]
+fn a_table_says_that_it_counts_only_what_was_seen() {
+    let folder = Folder::new("channels-table-unseen");
+    let said = |name: &str, samples: &[i32]| {
+        let (site, page) = (format!("{name}.site"), format!("{name}.html"));
+        folder.site(&site);
+        folder.write("k.csv", csv(samples));
+        folder.accepted(&["add", &site, "k.csv"]);
+        folder.accepted(&["report", &site, "k.csv", "-o", &page]);
+        let shown = folder.accepted(&["show", &site]).matches("only what was seen is counted").count();
+        (shown, folder.read(&page).matches("Of the shortfalls only what was seen is counted.").count())
+    };
+    let mut lost = blocks(&[1000; 6]);
+    assert_eq!(said("whole", &lost), (0, 0));
+    assert_eq!(said("sag", &three()), (0, 0));
+    lost[7] = MISSING;
+    assert_eq!(said("lost", &lost), (1, 1), "unknown half-cycles and no sag");
+    assert_eq!(said("begun", &blocks(&[500, 500, 1000, 1000])), (1, 1), "a sag without a start, and all known");
+    assert_eq!(said("gap", &gap()), (1, 1));
+}
+
+/// Sags of all lengths below each other: the strokes line up, and so does what follows.
+#[test]
+fn the_figures_line_up() {
+    let folder = Folder::new("channels-lines");
+    let (good, low) = ([1000; 3], [500, 1000, 880]);
+    let mut runs = vec![[800, 700, 0]; 4];
+    runs.extend([good; 3]);
+    runs.extend([low; 90]);
+    runs.extend([good; 3]);
+    runs.extend(vec![[1200, 1000, 1000]; 3]);
+    runs.extend([good; 3]);
+    runs.extend([[1000, 1000, 870]; 2]);
+    runs.extend([good; 3]);
+    let told = said(&folder, "list", &levels(&runs), &[]);
+    let places = |line: &str| line.match_indices(" / ").map(|(at, _)| at).collect::<Vec<_>>();
+    let sags: Vec<&str> = told.lines().filter(|line| line.contains("  sag ")).collect();
+    assert_eq!(sags.len(), 3, "{told}");
+    assert!(sags.iter().all(|sag| places(sag).len() == 2 && places(sag) == places(sags[0])), "{told}");
+    let lines: Vec<&str> = told.lines().collect();
+    let severity = lines[1].find("severity").unwrap();
+    let unscored: Vec<&&str> = lines.iter().filter(|line| line.contains("none: ")).collect();
+    assert!(unscored.len() == 2 && unscored.iter().all(|line| line.find("none: ") == Some(severity)), "{told}");
+    let scored = sags[1..].iter().all(|sag| sag[severity..severity + 8].trim().parse::<f64>().is_ok());
+    assert!(scored, "{told}");
 }
 
 /// Beyond 2^53, where a double would lose a unit, every digit is told.
@@ -271,6 +312,7 @@ fn the_help_tells_of_the_parts() {
             "all eleven numbers of each event",
             "shortfall_a, shortfall_b and shortfall_c, are exact and add up to shortfall",
             "Each is rounded down by itself, so together they may be less than the energy.",
+            "0 only where it is exactly that and the sag was seen whole, <1 where it is less than one,",
         ],
     );
     says(

@@ -54,8 +54,8 @@ fn list_is_aligned_and_plain() {
     folder.write("k.csv", csv(&k2()));
     let wanted = "\
 k.csv: 5 half-cycles (0.050 s): 2 healthy, 3 disturbed, 0 unknown; 1 event
-  no  kind  start  end       at   lasted  seen  extreme  retained  shortfall  type  severity   energy   a lost   b lost   c lost  cell
-   1  sag       1    4  0.010 s  0.030 s  both  2000000       500   36000000  A        1.000  0.045 s  0.015 s  0.015 s  0.015 s  17
+  no  kind  start  end       at   lasted  seen  extreme  retained  shortfall  type  ms lost a / b / c  severity   energy  cell
+   1  sag       1    4  0.010 s  0.030 s  both  2000000       500   36000000  A          15 / 15 / 15     1.000  0.045 s  17
 ";
     assert_eq!(folder.accepted(&[&["list", "k.csv"][..], &KNOWN].concat()), wanted);
 }
@@ -195,7 +195,7 @@ fn demo_lists_tables_and_writes_its_page() {
     let folder = Folder::new("demo");
     let told = folder.accepted(&["demo"]);
     for words in [
-        "   1  sag      19   59  0.190 s  0.400 s  both  12188262852       600  176251862040  Da       1.333  0.052 s  0.052 s  nothing  nothing  18\n",
+        "   1  sag      19   59  0.190 s  0.400 s  both  12188262852       600  176251862040  Da           52 / 0 / 0     1.333  0.052 s  18\n",
         "none: only the end unseen\n",
         "none: only the start unseen\n",
         "   2  interruption     20   29  0.200 s  0.090 s  both",

@@ -18,16 +18,30 @@ picture() {
     [ -s "$1" ]
 }
 
+# height WIDTH: how high the page is when it is so wide, so that a picture has all of it and nothing below it
+height() {
+    cat > "$work/height.html" << END
+<body><iframe src="demo.html" style="width:$1px;height:600px;border:0"></iframe><p></p>
+<script>onload = () => document.querySelector('p').textContent =
+    'height ' + document.querySelector('iframe').contentDocument.documentElement.scrollHeight</script>
+END
+    chromium --headless --no-sandbox --disable-gpu --hide-scrollbars --user-data-dir="$work/profile" \
+        --allow-file-access-from-files --dump-dom "file://$work/height.html" 2> /dev/null | sed -n 's/.*<p>height \([0-9]*\).*/\1/p'
+}
+
 mkdir -p "$root/docs"
-picture "$work/report.png" 1080 2810 demo.html
+whole=$(height 1080)
+[ -n "$whole" ]
+picture "$work/report.png" 1080 "$whole" demo.html
 mv "$work/report.png" "$root/docs/report.png"
 if [ -n "$looks" ]; then
     mkdir -p "$looks"
-    picture "$looks/light.png" 1080 3200 demo.html
-    picture "$looks/dark.png" 1080 3200 demo.html --blink-settings=preferredColorScheme=0
+    picture "$looks/light.png" 1080 "$whole" demo.html
+    picture "$looks/dark.png" 1080 "$whole" demo.html --blink-settings=preferredColorScheme=0
     # A window is never that narrow; a frame in one is.
-    echo '<body style="margin:0"><iframe src="demo.html" style="width:390px;height:2600px;border:0">' > "$work/phone.html"
-    picture "$looks/phone.png" 390 2600 phone.html
+    narrow=$(height 390)
+    echo "<body style=\"margin:0\"><iframe src=\"demo.html\" style=\"width:390px;height:${narrow}px;border:0\">" > "$work/phone.html"
+    picture "$looks/phone.png" 390 "$narrow" phone.html
     chromium --headless --no-sandbox --disable-gpu --user-data-dir="$work/profile" --no-pdf-header-footer \
         --print-to-pdf="$looks/a4.pdf" "file://$work/demo.html" > /dev/null 2>&1
 fi

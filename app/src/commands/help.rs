@@ -96,8 +96,9 @@ burrcradle list RECORDING... (--site SITE | --n N --r R --f F [--sag 90] [--inte
 Lists the events of recordings with their scores. Half-cycles are numbered from 0 in the whole recording, also where it is cut;
 an event goes from start up to but not with end, and begins at so many seconds. Its retained value is in thousandths of R, to
 the nearest, halves upward; thresholds and rows go by the extreme, the exact sum, and not by it. What channels a, b and c lost
-is their part of a sag's shortfall in seconds, where the energy is the whole: >= where an end of the sag is unseen, and nothing
-only where it is exactly that. Each is rounded down by itself, so together they may be less than the energy.
+is their part of a sag's shortfall, as the energy is the whole, but in milliseconds: 0 only where it is exactly that and the sag
+was seen whole, <1 where it is less than one, and >= where an end of the sag is unseen (>0 for less than one). Each is rounded
+down by itself, so together they may be less than the energy. Why an event has no score stands where its score would.
 
 In CSV each row has its recording's total, healthy, disturbed and unknown half-cycles, the column cut says which ends a cut has
 taken (1 the start, 2 the end, 3 both), and a recording without events has one row of kind 0, none. The last three columns,
@@ -120,8 +121,9 @@ burrcradle show SITE [--json | --csv]
 
 Shows a site's table: half-cycles, events, the sags by depth (rows) and duration (columns), and the shortfall, whole and of
 each channel, as seconds (1000 x shortfall / (N x R x R x 2f), in whole milliseconds, rounded down). The exact shortfalls of a,
-b and c add up to the whole; their seconds, each rounded down by itself, may be less. In JSON they are shortfall_a, shortfall_b
-and shortfall_c, in CSV, as in the site's file, shortfall-a, shortfall-b and shortfall-c.
+b and c add up to the whole; their seconds, each rounded down by itself, may be less. Where half-cycles are unknown or a sag has
+an unseen end only what was seen is counted, and the table says so. The three are shortfall_a, shortfall_b and shortfall_c in JSON,
+and in CSV, as in the site's file, shortfall-a, shortfall-b and shortfall-c.
 
 A site's file of version 1 or 2 was kept before shortfalls were counted by channel. Every command that reads a site tells so,
 with exit status 2, and leaves it: new and add make the site anew from its recordings.
@@ -152,7 +154,8 @@ burrcradle explain RECORDING... (--site SITE | --n N --r R --f F [--sag 90] [--i
                 [--hysteresis 2]) [--cut] [--raw] [--json | --csv]
 
 Tells each event in words: which channels launched it and how far they went, its peak, which condition ended it, how its score
-comes about, or why it has none, and what each channel lost.
+comes about, or why it has none, and what each channel lost. --json and --csv have what list has, and the sentences: launch,
+peak, landing, score, loss.
 
 Example:
     burrcradle explain monday.csv --site depot.site

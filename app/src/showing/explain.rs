@@ -226,9 +226,9 @@ fn no_score(s: &Settings, event: &Found, taken: Taken) -> String {
         _ => "what happened at one end is not known, and at the other the recording is cut",
     };
     format!(
-        "{why}; {there}, so neither severity nor cell is given (shortfall {} = {} s is what was seen).",
+        "{why}; {there}, so neither severity nor cell is given (shortfall {} = {} is what was seen).",
         event.shortfall,
-        words::shortfall_seconds(s, event.shortfall)
+        words::shortfall(s, event.shortfall)
     )
 }
 

@@ -6,15 +6,18 @@ use crate::answered::{
 };
 use host::{Settings, Table};
 
-/// Columns, each as wide as its widest field: numbers to the right, the columns of `left` to the left.
+/// Columns, each as wide as its widest field: numbers to the right, the columns of `left` to the left. The last field of a row that
+/// has fewer fields than the head stands in all the columns that are left.
 pub fn columns(head: &[&str], rows: &[Vec<String>], left: &[usize], paint: &Paint) -> String {
+    let over_more = |row: &[String], at: usize| row.len() < head.len() && at + 1 == row.len();
     let width = |at: usize| {
-        let fields = rows.iter().filter_map(|row| row.get(at)).map(|field| field.chars().count());
+        let rows = rows.iter().filter(|row| !over_more(row, at));
+        let fields = rows.filter_map(|row| row.get(at)).map(|field| field.chars().count());
         fields.max().unwrap_or(0).max(head[at].chars().count())
     };
     let widths: Vec<usize> = (0..head.len()).map(width).collect();
     let row = |fields: &[String]| {
-        let laid = fields.iter().enumerate().map(|(at, field)| match left.contains(&at) {
+        let laid = fields.iter().enumerate().map(|(at, field)| match left.contains(&at) || over_more(fields, at) {
             true => format!("{field:<width$}", width = widths[at]),
             false => format!("{field:>width$}", width = widths[at]),
         });
@@ -76,7 +79,7 @@ pub fn cut_note(s: &Settings, answer: &Answer) -> String {
     format!("{} is cut into {} parts.\n{}\n", answer.name, answer.parts.len(), wrapped(&said, ""))
 }
 
-const LIST: [&str; 17] = [
+const LIST: [&str; 15] = [
     "no",
     "kind",
     "start",
@@ -88,11 +91,9 @@ const LIST: [&str; 17] = [
     "retained",
     "shortfall",
     "type",
+    "ms lost a / b / c",
     "severity",
     "energy",
-    "a lost",
-    "b lost",
-    "c lost",
     "cell",
 ];
 
@@ -106,9 +107,10 @@ pub fn list(s: &Settings, answer: &Answer, paint: &Paint) -> String {
     for part in &answer.parts {
         out += &heading(s, answer, part, paint);
         if !part.events.is_empty() {
-            let rows: Vec<_> =
-                part.events.iter().enumerate().map(|(at, e)| row(s, at, e, words::cut(answer, e))).collect();
-            out += &columns(&LIST, &rows, &[1, 6, 10, 16], paint);
+            let lost = bars(s, &part.events);
+            let rows = part.events.iter().zip(lost).enumerate();
+            let rows: Vec<_> = rows.map(|(at, (e, lost))| row(s, at, e, lost, words::cut(answer, e))).collect();
+            out += &columns(&LIST, &rows, &[1, 6, 10, 14], paint);
             if part.events.iter().any(|event| words::rounds_apart(s, event)) {
                 out += ROUNDED;
             }
@@ -117,33 +119,33 @@ pub fn list(s: &Settings, answer: &Answer, paint: &Paint) -> String {
     out
 }
 
-fn row(s: &Settings, at: usize, event: &Found, cut: &str) -> Vec<String> {
+/// The line of an event. Why one has no score stands where its score would.
+fn row(s: &Settings, at: usize, event: &Found, lost: String, cut: &str) -> Vec<String> {
     let mut row = vec![(at + 1).to_string(), words::kind(event.kind).into()];
     row.extend([event.start.to_string(), event.end.to_string(), words::seconds(event.start, s.f)]);
     row.extend([words::seconds(event.halves(), s.f), words::seen(event.seen).into()]);
     row.extend([event.extreme.to_string(), event.retained.to_string()]);
     row.extend(match event.kind {
-        1 => [event.shortfall.to_string(), words::class(event.class).into()],
-        _ => ["-".into(), "-".into()],
-    });
-    row.extend(match event.score {
-        Some(score) => [format!("{:.3}", score.severity), format!("{:.3} s", score.energy)],
-        None => ["none".into(), "none".into()],
-    });
-    row.extend(match event.kind {
-        1 => words::losses(s, event).map(short),
+        1 => [event.shortfall.to_string(), words::class(event.class).into(), lost],
         _ => ["-", "-", "-"].map(String::from),
     });
-    row.push(match event.score {
-        Some(_) => format!("{}{cut}", event.cell),
-        None => format!("none: {}{cut}", words::reason(event.reason)),
-    });
+    match event.score {
+        Some(score) => {
+            row.extend([format!("{:.3}", score.severity), format!("{:.3} s", score.energy)]);
+            row.push(format!("{}{cut}", event.cell));
+        }
+        None => row.push(format!("none: {}{cut}", words::reason(event.reason))),
+    }
     row
 }
 
-/// Words for a narrow column.
-fn short(loss: String) -> String {
-    loss.replace("at least", ">=").replace("more than", ">").replace("less than", "<")
+/// What each channel lost in each event, as `a / b / c`, with the strokes of all below each other.
+fn bars(s: &Settings, events: &[Found]) -> Vec<String> {
+    let lost: Vec<[String; 3]> = events.iter().map(|event| words::lost_milliseconds(s, event)).collect();
+    let sags = || events.iter().zip(&lost).filter(|(event, _)| event.kind == 1);
+    let width = |channel: usize| sags().map(|(_, lost)| lost[channel].len()).max().unwrap_or(0);
+    let [a, b, c] = [0, 1, 2].map(width);
+    lost.iter().map(|[of_a, of_b, of_c]| format!("{of_a:>a$} / {of_b:>b$} / {of_c:>c$}")).collect()
 }
 
 /// The events of a recording in words.
@@ -180,7 +182,7 @@ pub fn table(name: &str, table: &Table, paint: &Paint) -> String {
         ("  channel b", of_b),
         ("  channel c", of_c),
     ];
-    for (label, told) in lines {
+    for (label, told) in lines.into_iter().chain(words::seen_only(&c).map(|said| ("", said.into()))) {
         out += &format!("  {label:<13}  {told}\n");
     }
     let mut head = vec!["sags by depth"];

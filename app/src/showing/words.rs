@@ -192,6 +192,21 @@ pub fn losses(s: &Settings, event: &Found) -> [String; 3] {
     })
 }
 
+/// The same in milliseconds, for a narrow column: a bare 0 is nothing.
+pub fn lost_milliseconds(s: &Settings, event: &Found) -> [String; 3] {
+    event.by_channel.map(|part| match (event.seen_whole(), part, milliseconds(s, part)) {
+        (true, 1.., 0) => "<1".into(),
+        (true, _, ms) => ms.to_string(),
+        (false, 1.., 0) => ">0".into(),
+        (false, _, ms) => format!(">={ms}"),
+    })
+}
+
+/// What has to be said beside the shortfalls of a table in which something was not seen: a 0 is then nothing that was seen.
+pub fn seen_only(c: &Counts) -> Option<&'static str> {
+    (c.unknown > 0 || c.unplaced > 0).then_some("only what was seen is counted")
+}
+
 /// Whether what the channels lost, rounded down each, makes less than the energy.
 pub fn rounds_apart(s: &Settings, event: &Found) -> bool {
     let parts = event.by_channel.iter().map(|part| milliseconds(s, *part));

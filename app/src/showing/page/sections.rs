@@ -96,7 +96,8 @@ fn by_channel(s: &Settings, c: &Counts) -> String {
         format!("<div class=\"tile {name}\"><b>{seconds}</b><span>channel {name}</span><i>{part}</i></div>")
     };
     let tiles: String = words::CHANNELS.into_iter().zip(c.by_channel).map(told).collect();
-    format!("<div class=\"tiles\">{tiles}</div>")
+    let seen_only = words::seen_only(c).map(|said| format!("<p class=\"note\">Of the shortfalls {said}.</p>"));
+    format!("<div class=\"tiles\">{tiles}</div>{}", seen_only.unwrap_or_default())
 }
 
 /// Unknown time, big enough not to be missed, wherever there is any.
