@@ -97,6 +97,7 @@ fn merge(t: Table, u: Table) -> Table
     let settings = t.settings;
     let a = t.cells;
     let b = u.cells;
+    let parts = add_sums(t.parts, u.parts);
     Table {
         settings,
         total: t.total + u.total,
@@ -109,7 +110,7 @@ fn merge(t: Table, u: Table) -> Table
         interruptions: t.interruptions + u.interruptions,
         swells: t.swells + u.swells,
         shortfall: t.shortfall + u.shortfall,
-        parts: add_sums(t.parts, u.parts),
+        parts,
     }
 }
 
