@@ -20,9 +20,9 @@ pub const WORDS: usize = 11;
 /// An event's numbers.
 pub type Event = [u64; WORDS];
 
-/// How many numbers a site table has: seven settings; total, healthy, disturbed, unknown; forty cells; unplaced; sags,
-/// interruptions, swells; shortfall, and those of channels a, b and c.
-pub const TABLE: usize = 59;
+/// How many numbers a site table has: seven settings and the set of borders; total, healthy, disturbed, unknown; forty cells;
+/// unplaced; sags, interruptions, swells; shortfall, and those of channels a, b and c.
+pub const TABLE: usize = 60;
 
 /// A site table.
 pub type Table = [u64; TABLE];
@@ -47,17 +47,17 @@ pub mod raw {
     extern "C" {
         pub fn burr_reason(
             n: u64, r: u64, f: u64, sag: u64, interruption: u64, swell: u64, hysteresis: u64,
-            kind: u64, start: u64, end: u64, seen: u64, extreme: u64, retained: u64, shortfall: u64, class: u64,
+            set: u64, kind: u64, start: u64, end: u64, seen: u64, extreme: u64, retained: u64, shortfall: u64, class: u64,
             short_a: u64, short_b: u64, short_c: u64,
         ) -> u64;
         pub fn burr_cell(
             n: u64, r: u64, f: u64, sag: u64, interruption: u64, swell: u64, hysteresis: u64,
-            kind: u64, start: u64, end: u64, seen: u64, extreme: u64, retained: u64, shortfall: u64, class: u64,
+            set: u64, kind: u64, start: u64, end: u64, seen: u64, extreme: u64, retained: u64, shortfall: u64, class: u64,
             short_a: u64, short_b: u64, short_c: u64,
         ) -> u64;
         pub fn burr_score(
             n: u64, r: u64, f: u64, sag: u64, interruption: u64, swell: u64, hysteresis: u64,
-            kind: u64, start: u64, end: u64, seen: u64, extreme: u64, retained: u64, shortfall: u64, class: u64,
+            set: u64, kind: u64, start: u64, end: u64, seen: u64, extreme: u64, retained: u64, shortfall: u64, class: u64,
             short_a: u64, short_b: u64, short_c: u64,
             severity: *mut f64, energy: *mut f64,
         ) -> u64;
@@ -67,31 +67,32 @@ pub mod raw {
         ) -> u64;
         pub fn burr_fresh(
             n: u64, r: u64, f: u64, sag: u64, interruption: u64, swell: u64, hysteresis: u64,
-            table: *mut u64, place: *mut u64,
+            set: u64, table: *mut u64, place: *mut u64,
         ) -> u64;
         pub fn burr_add(table: *mut u64, samples: *const i32, samples_len: usize, place: *mut u64) -> u64;
     }
 }
 
-/// Why the event is not scored: 0 where it is.
+/// Why the event is not scored under the settings and the set of borders: 0 where it is.
 #[rustfmt::skip]
-pub fn reason(s: &Settings, e: &Event) -> u64 {
+pub fn reason(s: &Settings, set: u64, e: &Event) -> u64 {
     // SAFETY: numbers only.
     unsafe {
         raw::burr_reason(
-            s.n, s.r, s.f, s.sag, s.interruption, s.swell, s.hysteresis,
+            s.n, s.r, s.f, s.sag, s.interruption, s.swell, s.hysteresis, set,
             e[0], e[1], e[2], e[3], e[4], e[5], e[6], e[7], e[8], e[9], e[10],
         )
     }
 }
 
-/// The cell of the event: 40 where it is not scored.
+/// The cell of the event by the set of borders; where it is not scored one above the last of the set, 40 or 25, and 40 for an
+/// unknown set.
 #[rustfmt::skip]
-pub fn cell(s: &Settings, e: &Event) -> u64 {
+pub fn cell(s: &Settings, set: u64, e: &Event) -> u64 {
     // SAFETY: numbers only.
     unsafe {
         raw::burr_cell(
-            s.n, s.r, s.f, s.sag, s.interruption, s.swell, s.hysteresis,
+            s.n, s.r, s.f, s.sag, s.interruption, s.swell, s.hysteresis, set,
             e[0], e[1], e[2], e[3], e[4], e[5], e[6], e[7], e[8], e[9], e[10],
         )
     }
@@ -99,12 +100,12 @@ pub fn cell(s: &Settings, e: &Event) -> u64 {
 
 /// The score of the event, or the reason why it has none.
 #[rustfmt::skip]
-pub fn score(s: &Settings, e: &Event) -> Result<Score, u64> {
+pub fn score(s: &Settings, set: u64, e: &Event) -> Result<Score, u64> {
     let mut given = Score { severity: f64::NAN, energy: f64::NAN };
     // SAFETY: both floats are this function's own.
     let why = unsafe {
         raw::burr_score(
-            s.n, s.r, s.f, s.sag, s.interruption, s.swell, s.hysteresis,
+            s.n, s.r, s.f, s.sag, s.interruption, s.swell, s.hysteresis, set,
             e[0], e[1], e[2], e[3], e[4], e[5], e[6], e[7], e[8], e[9], e[10],
             &mut given.severity, &mut given.energy,
         )
@@ -126,12 +127,12 @@ pub fn list(s: &Settings, samples: &[i32], events: &mut [u64]) -> Result<u64, Re
     if number == 0 { Ok(answer) } else { Err(Refused { number, place: answer }) }
 }
 
-/// A fresh table for the settings; where they are refused, the table is all zeros.
-pub fn fresh(s: &Settings) -> (Result<(), Refused>, Table) {
+/// A fresh table for the settings and the set of borders; where they are refused, the table is all zeros.
+pub fn fresh(s: &Settings, set: u64) -> (Result<(), Refused>, Table) {
     let (mut table, mut place) = ([0; TABLE], 0);
-    // SAFETY: the table has the 59 numbers that the library writes.
+    // SAFETY: the table has the 60 numbers that the library writes.
     let number = unsafe {
-        raw::burr_fresh(s.n, s.r, s.f, s.sag, s.interruption, s.swell, s.hysteresis, table.as_mut_ptr(), &mut place)
+        raw::burr_fresh(s.n, s.r, s.f, s.sag, s.interruption, s.swell, s.hysteresis, set, table.as_mut_ptr(), &mut place)
     };
     (accepted(number, place), table)
 }
@@ -139,7 +140,7 @@ pub fn fresh(s: &Settings) -> (Result<(), Refused>, Table) {
 /// Adds a recording to the table; a refusal leaves it as it was.
 pub fn add(table: &mut Table, samples: &[i32]) -> Result<(), Refused> {
     let mut place = 0;
-    // SAFETY: the table has 59 numbers, and the samples' pointer goes with their length.
+    // SAFETY: the table has 60 numbers, and the samples' pointer goes with their length.
     let number = unsafe { raw::burr_add(table.as_mut_ptr(), samples.as_ptr(), samples.len(), &mut place) };
     accepted(number, place)
 }
