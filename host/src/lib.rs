@@ -128,11 +128,15 @@ pub fn list(s: &Settings, samples: &[i32], events: &mut [u64]) -> Result<u64, Re
 }
 
 /// A fresh table for the settings and the set of borders; where they are refused, the table is all zeros.
+#[rustfmt::skip]
 pub fn fresh(s: &Settings, set: u64) -> (Result<(), Refused>, Table) {
     let (mut table, mut place) = ([0; TABLE], 0);
     // SAFETY: the table has the 60 numbers that the library writes.
     let number = unsafe {
-        raw::burr_fresh(s.n, s.r, s.f, s.sag, s.interruption, s.swell, s.hysteresis, set, table.as_mut_ptr(), &mut place)
+        raw::burr_fresh(
+            s.n, s.r, s.f, s.sag, s.interruption, s.swell, s.hysteresis, set,
+            table.as_mut_ptr(), &mut place,
+        )
     };
     (accepted(number, place), table)
 }
