@@ -1,9 +1,11 @@
-// What the recorder hands over, checked: refusals 1 to 5, the tests of a sample for refusal 6, and how many half-cycles there are.
+// What the recorder hands over, checked: refusals 1 to 5, the tests of a sample for refusal 6; N x R x R, and how many half-cycles there
+// are.
 ghost use mathlib.Core.Path.{_≡_};
+ghost use mathlib.Core.Bool.{true};
 ghost use Prim.Native.Nat.{_≤_};
 ghost use lib.ListN.{length};
-ghost use Rattle.rules.specs.Recorder.{badSetting, missing, inRange, firstBad};
-ghost use Rattle.rules.specs.Halves.{halvesOf};
+ghost use Rattle.rules.specs.Recorder.{badSetting, settingsGood, missing, inRange, firstBad};
+ghost use Rattle.rules.specs.Halves.{full, halvesOf};
 ghost use Rattle.rules.specs.Refusals.{settingsCheck};
 ghost use Rattle.checks.specs.Flags.{tooLow, tooHigh, allInRange, RangedBelow, shapeCheck};
 use numbers::quotient;
@@ -46,6 +48,14 @@ pub fn first_bad_setting(s: Settings) -> u64
         return 7;
     }
     0
+}
+
+// N x R x R.
+pub fn full_of(s: Settings) -> u64
+    requires { ⌜ settingsGood s ≡ true ⌝ }
+    ensures { λ r. ⌜ r ≡ full s ⌝ }
+{
+    s.n * s.r * s.r
 }
 
 // Refusal 1.

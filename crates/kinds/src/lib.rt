@@ -96,7 +96,7 @@ pub fn thresholds_of(s: Settings) -> Thresholds
     requires { ⌜ settingsGood s ≡ true ⌝ }
     ensures { λ r. ⌜ r ≡ thresholdsOf s ⌝ }
 {
-    let full = score::full_of(s);
+    let full = checks::full_of(s);
     Thresholds {
         full,
         sag: marks_of(s, full, Kind::Sag),

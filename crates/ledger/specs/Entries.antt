@@ -8,7 +8,7 @@ use lib.Dec.{ltb}
 use Rattle.rules.specs.Bounded.{bit}
 use Rattle.rules.specs.Recorder.{settingsGood}
 use Rattle.rules.specs.Halves.{ofChannel, channels}
-use Rattle.rules.specs.Site.{cellAt}
+use Rattle.rules.specs.Borders.{knownSet, bordersOf, cellAt}
 use Rattle.rules.specs.declared.Settings.{Settings}
 use Rattle.rules.specs.declared.Sums.{Sums}
 use Rattle.rules.specs.declared.Half.{Half}
@@ -65,22 +65,23 @@ landedBy n ends o isKnown =
       parts = partsBy (n .parts) ends (o .short);
     }
 
--- the cell of a sag with both ends seen has one more
-abbrev pub cellsBy : Settings → Bool → Open → ℕ → Bool → List ℕ → List ℕ
-cellsBy s ends o end isKnown cs =
-    let c = cellAt s (o .extreme) (end - o .start) in
+-- the cell of a sag with both ends seen, by a set of borders, has one more
+abbrev pub cellsBy : Settings → ℕ → Bool → Open → ℕ → Bool → List ℕ → List ℕ
+cellsBy s set ends o end isKnown cs =
+    let c = cellAt s (bordersOf s set) (o .extreme) (end - o .start) in
     cond (ends && (o .seen && isKnown)) (set cs c (getD cs c 0 + 1)) cs
 
 -- what that asks: a cell that can be worked out, and counts that can grow
-pub record Placeable (s : Settings) (ends : Bool) (o : Open) (end : ℕ) (cs : List ℕ) : Type 0 where
+pub record Placeable (s : Settings) (set : ℕ) (ends : Bool) (o : Open) (end : ℕ) (cs : List ℕ) : Type 0 where
   pub good-settings : settingsGood s ≡ true
+  pub known-set : knownSet set ≡ true
   pub extreme : ends ≡ true → o .extreme ≤ s .n * 10000000000
   pub began : ends ≡ true → o .start ≤ end
   pub high : end ≤ 100000
   pub few : (i : ℕ) → getD cs i 0 ≤ 4000000
 
-pub record Landable (s : Settings) (n : Landed) (ends : Bool) (o : Open) (k : ℕ) (cs : List ℕ) : Type 0 where
-  pub placeable : Placeable s ends o k cs
+pub record Landable (s : Settings) (set : ℕ) (n : Landed) (ends : Bool) (o : Open) (k : ℕ) (cs : List ℕ) : Type 0 where
+  pub placeable : Placeable s set ends o k cs
   pub light : Light (o .short)
   pub unplaced-few : n .unplaced ≤ 4000000
   pub parts-light : Light (n .parts)
@@ -101,18 +102,18 @@ surveyedBy m v p k =
       landed = landedBy (p .landed) (landsBy m v p k) (p .track .sag) (l .known);
     }
 
-unfoldable pub cellsTurned : Settings → Thresholds → Half → Survey → ℕ → List ℕ → List ℕ
-cellsTurned s m v p k cs =
-    cellsBy s (landsBy m v p k) (p .track .sag) k (levelFrom (m .full) (m .sag .from) v .known) cs
+unfoldable pub cellsTurned : Settings → ℕ → Thresholds → Half → Survey → ℕ → List ℕ → List ℕ
+cellsTurned s set m v p k cs =
+    cellsBy s set (landsBy m v p k) (p .track .sag) k (levelFrom (m .full) (m .sag .from) v .known) cs
 
 -- what that asks: numbers that can grow
-pub record Turnable (s : Settings) (m : Thresholds) (v : Half) (p : Survey) (k : ℕ) (cs : List ℕ) : Type 0 where
+pub record Turnable (s : Settings) (set : ℕ) (m : Thresholds) (v : Half) (p : Survey) (k : ℕ) (cs : List ℕ) : Type 0 where
   pub marked : Marked m
   pub few : Few v
   pub follow : Light (p .track .sag .short) × Light (levelFrom (m .full) (m .sag .from) v .short)
   pub classes-few : (p .classes .healthy ≤ 4000000) × (p .classes .disturbed ≤ 4000000) × (p .classes .unknown ≤ 4000000)
   pub starts-few : (p .starts .sags ≤ 4000000) × (p .starts .interruptions ≤ 4000000) × (p .starts .swells ≤ 4000000)
-  pub landable : Landable s (p .landed) (landsBy m v p k) (p .track .sag) k cs
+  pub landable : Landable s set (p .landed) (landsBy m v p k) (p .track .sag) k cs
 
 -- so many half-cycles more at which nothing goes on: they are healthy, and the last of them is known
 abbrev pub passedOver : Survey → ℕ → Survey

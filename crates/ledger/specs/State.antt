@@ -7,6 +7,7 @@ use lib.Dec.{eqb}
 use Rattle.rules.specs.Bounded.{before, bit, count}
 use Rattle.rules.specs.Halves.{ofChannel, channels, known}
 use Rattle.rules.specs.Events.{inEvent, starts, endOf, startSeen, endSeen, shortsOf}
+use Rattle.rules.specs.Borders.{Borders}
 use Rattle.rules.specs.Site.{cells, isHealthy, isDisturbed, isUnknown, sagCell, cellsFrom}
 use Rattle.rules.specs.declared.Settings.{Settings}
 use Rattle.rules.specs.declared.Half.{Half}
@@ -65,8 +66,9 @@ landedAt s h n k =
       parts = channels (λ c. landed s h Sag (partFrom s h n c) k);
     }
 
-unfoldable pub cellsAt : Settings → (ℕ → Half) → ℕ → ℕ → List ℕ
-cellsAt s h n k = cellsFrom (λ i. landed s h Sag (λ a. bit (seenBoth s h n a && eqb (sagCell s h n a) i)) k) (replicate cells 0) 0
+-- by any borders
+unfoldable pub cellsAt : Settings → Borders → (ℕ → Half) → ℕ → ℕ → List ℕ
+cellsAt s b h n k = cellsFrom (λ i. landed s h Sag (λ a. bit (seenBoth s h n a && eqb (sagCell s b h n a) i)) k) (replicate cells 0) 0
 
 unfoldable pub surveyAt : Settings → (ℕ → Half) → ℕ → ℕ → Survey
 surveyAt s h n k =

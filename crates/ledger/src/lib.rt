@@ -5,6 +5,7 @@ ghost use Prim.Native.Nat.{_+_, _≤_};
 ghost use Rattle.rules.specs.Bounded.{bit};
 ghost use Rattle.kinds.specs.Machine.{Light};
 ghost use Rattle.ledger.specs.Entries.{trackedBy, classedBy, startedBy, partsBy, landedBy, cellsBy, Placeable, Landable, Turnable, surveyedBy, cellsTurned, goingOn, passedOver, startSurvey};
+use borders::cell_at;
 use kinds::Level;
 use kinds::Open;
 use kinds::Thresholds;
@@ -17,7 +18,6 @@ use rules::Half;
 use rules::Kind;
 use rules::Settings;
 use rules::Sums;
-use score::cell_at;
 
 // What goes on before a half-cycle: whether the one before is known, the sag, whether an interruption or a swell is.
 pub struct Track {
@@ -109,13 +109,13 @@ fn count_starts(n: Starts, was: Track, is: Track) -> Starts
     }
 }
 
-// A sag with both ends seen that half-cycle `end` ends: its cell has one more.
-fn place(s: Settings, ends: bool, o: Open, end: u64, known: bool, cells: &mut [u64; 40])
-    requires { ⌜ Placeable s ends o end (now cells) ⌝ }
-    ensures { λ r. ⌜ now (cells .exit) ≡ cellsBy s ends o end known (now (cells .entry)) ⌝ }
+// A sag with both ends seen that half-cycle `end` ends: its cell by the set of borders has one more.
+fn place(s: Settings, set: u64, ends: bool, o: Open, end: u64, known: bool, cells: &mut [u64; 40])
+    requires { ⌜ Placeable s set ends o end (now cells) ⌝ }
+    ensures { λ r. ⌜ now (cells .exit) ≡ cellsBy s set ends o end known (now (cells .entry)) ⌝ }
 {
     if ends & (o.seen & known) {
-        let c = cell_at(s, o.extreme, end - o.start) as usize;
+        let c = cell_at(s, set, o.extreme, end - o.start) as usize;
         cells[c] = cells[c] + 1;
     }
 }
@@ -134,6 +134,7 @@ fn add_parts(n: Sums, ends: bool, short: Sums) -> Sums
 // What the sag adds that half-cycle k, known or not, ends; nothing where it ends none.
 pub fn land(
     s: Settings,
+    set: u64,
     n: Landed,
     ends: bool,
     o: Open,
@@ -141,11 +142,11 @@ pub fn land(
     known: bool,
     cells: &mut [u64; 40],
 ) -> Landed
-    requires { ⌜ Landable s n ends o k (now cells) ⌝ }
+    requires { ⌜ Landable s set n ends o k (now cells) ⌝ }
     ensures { λ r. ⌜ r ≡ landedBy n ends o known ⌝ }
-    ensures { λ r. ⌜ now (cells .exit) ≡ cellsBy s ends o k known (now (cells .entry)) ⌝ }
+    ensures { λ r. ⌜ now (cells .exit) ≡ cellsBy s set ends o k known (now (cells .entry)) ⌝ }
 {
-    place(s, ends, o, k, known, cells);
+    place(s, set, ends, o, k, known, cells);
     Landed {
         unplaced: bump(n.unplaced, ends & !(o.seen & known)),
         parts: add_parts(n.parts, ends, o.short),
@@ -155,15 +156,16 @@ pub fn land(
 // Half-cycle k for all kinds and all counts.
 pub fn survey_turn(
     s: Settings,
+    set: u64,
     m: Thresholds,
     half: Half,
     p: Survey,
     k: u64,
     cells: &mut [u64; 40],
 ) -> Survey
-    requires { ⌜ Turnable s m half p k (now cells) ⌝ }
+    requires { ⌜ Turnable s set m half p k (now cells) ⌝ }
     ensures { λ r. ⌜ r ≡ surveyedBy m half p k ⌝ }
-    ensures { λ r. ⌜ now (cells .exit) ≡ cellsTurned s m half p k (now (cells .entry)) ⌝ }
+    ensures { λ r. ⌜ now (cells .exit) ≡ cellsTurned s set m half p k (now (cells .entry)) ⌝ }
 {
     let marks = m.sag;
     let l = level_at(m.full, marks.from, half);
@@ -175,7 +177,7 @@ pub fn survey_turn(
     let classes = classify(p.classes, l.known, any);
     let starts = count_starts(p.starts, was, is);
     let ends = open.inside & !sag.inside;
-    let landed = land(s, p.landed, ends, open, k, l.known, cells);
+    let landed = land(s, set, p.landed, ends, open, k, l.known, cells);
     Survey {
         track: is,
         classes,

@@ -1,26 +1,25 @@
--- Which row an extreme lies in, which column a duration, and which value the curve has, each border in plain numbers. Assumes
--- nothing.
-use Prim.Native.Nat.{ℕ, zero, suc, _+_, _-_, _*_, _≤_, _<_}
+-- Which row an extreme lies in and which column a duration, by any rising borders; the borders of each set, and which value the curve
+-- has, in plain numbers. Assumes nothing.
+use Prim.Native.Nat.{ℕ, zero, suc, _+_, _*_, _≤_, _<_}
 use mathlib.Core.Path.{_≡_, refl}
 use mathlib.Core.Bool.{Bool, true, false, not}
 use mathlib.Core.List.{List}
 use mathlib.Core.Logic.{_↔_, _⊎_, inl, inr, ⊎-elim, Iff·trans}
-use native.Mathlib.Nat.{eq-or-lt-of-le, le-antisymm}
+use native.Mathlib.Nat.{eq-or-lt-of-le, le-antisymm, mul-le-mul, mul-le-mul-right, add-mul}
 use native.Mathlib.Omega.{arith}
-use borrow.Author.Tests.{ltb-true, le-leb, lt-leb, leb-true, leb-false, not-true, not-false}
-use lib.Dec.{leb, ltb}
+use borrow.Author.Tests.{ltb-true, lt-ltb, le-leb, lt-leb, leb-true, leb-false, not-true, not-false}
+use lib.Dec.{leb}
 use lib.ListN.{length, getD}
 use Rattle.rules.specs.Recorder.{settingsGood}
 use Rattle.rules.specs.Halves.{full, atMost}
+use Rattle.rules.specs.Borders.{Borders, knownSet, bordersOf, placeOf, rowOf, columnOf}
 use Rattle.rules.specs.Scores.{curveOf}
-use Rattle.rules.specs.Site.{placeOf, rowBorders, rowOf, columnBorders, columnOf}
 use Rattle.rules.specs.Demands.{rising, Falling}
-use Rattle.rules.specs.Meanings.{percent, rowPercent, Against}
+use Rattle.rules.specs.Meanings.{percent, rowPercent, columnBorders, Against}
 use Rattle.rules.specs.declared.Settings.{Settings}
 use Rattle.rules.proofs.Booleans.{not-both, cases}
-use Rattle.rules.proofs.Bounded.{all-at}
-use Rattle.rules.proofs.Borders.{place-passed, place-stops, rows-rise, row-high, columns-rise, column-high}
-use Rattle.rules.proofs.Channels.{percent-rises, at-most-is, not-at-most}
+use Rattle.rules.proofs.Borders.{place-passed, place-stops, rising-step, row-high, column-high, set-rows-rise, set-columns-rise}
+use Rattle.rules.proofs.Channels.{percent-is, percent-rises, at-most-is, not-at-most}
 use Rattle.rules.proofs.Choices.{lower}
 use Rattle.rules.proofs.Ranges.{good, full-least}
 
@@ -30,7 +29,7 @@ module _ (passed : ℕ → Bool) (falls : Falling passed) (bs : List ℕ) (rises
   passed-below : (i j : ℕ) → j ≤ i → i < length bs → passed (getD bs i 0) ≡ true → passed (getD bs j 0) ≡ true
   passed-below zero j l u p = let e : j ≡ 0 = omega arith in rw e p
   passed-below (suc i) j l u p =
-      let step = ltb-true (getD bs i 0) (getD bs (suc i) 0) (all-at (λ i. ltb (getD bs i 0) (getD bs (suc i) 0)) (length bs - 1) rises i (omega arith)) in
+      let step = rising-step bs rises i u in
       ⊎-elim
       (λ e. rw e p)
       (λ v. passed-below i j (omega arith) (omega arith) (falls (getD bs i 0) (getD bs (suc i) 0) (omega arith) p))
@@ -45,132 +44,139 @@ module _ (passed : ℕ → Bool) (falls : Falling passed) (bs : List ℕ) (rises
     λ e. ⊎-elim (λ u. absurd (not-both (passed (getD bs i 0)) (place-passed passed bs i u) e)) (λ u. u) (lower i (placeOf passed bs)),
   )
 
--- ---- rows
+-- ---- rows, by any borders
 
 above-falls : (s : Settings) (S : ℕ) → Falling (λ p. not (atMost s p S))
 above-falls s S b c l h =
     let u = not-at-most s c S .0 (not-true (atMost s c S) h) in
     rw (not-at-most s b S .1 (omega (arith, u, percent-rises s b c l)))
 
-row-border : (i : ℕ) → i < 4 → getD rowBorders i 0 ≡ rowPercent i
-row-border zero l = refl
-row-border (suc zero) l = refl
-row-border (suc (suc zero)) l = refl
-row-border (suc (suc (suc zero))) l = refl
-row-border (suc (suc (suc (suc i)))) l = absurd (omega arith)
-
 not-above : (s : Settings) (p S : ℕ) → (not (atMost s p S) ≡ false) ↔ (10000 * S ≤ percent s p)
 not-above s p S = (λ h. at-most-is s p S .0 (not-false (atMost s p S) h), λ h. rw (at-most-is s p S .1 h))
 
--- THE LAW: an extreme lies in row i or a deeper one exactly if V is at most 10, 40, 70, 85 percent
-pub row-is : (s : Settings) (S i : ℕ) → i < 4 → (rowOf s S ≤ i) ↔ (10000 * S ≤ percent s (rowPercent i))
-unfolding rowOf
-row-is s S i l =
-    rw (← row-border i l)
-    (Iff·trans (place-at-most (λ p. not (atMost s p S)) (above-falls s S) rowBorders rows-rise i l) (not-above s (getD rowBorders i 0) S))
-
--- two borders of rows are further apart than one unit of S
-rows-apart : (s : Settings) → 8000000 ≤ full s → (i : ℕ) → i < 3 → percent s (rowPercent i) + 10000 ≤ percent s (rowPercent (suc i))
-unfolding full
-rows-apart s g zero l = omega arith
-rows-apart s g (suc zero) l = omega arith
-rows-apart s g (suc (suc zero)) l = omega arith
-rows-apart s g (suc (suc (suc i))) l = absurd (omega arith)
-
--- a voltage on a border goes to the deeper row, and one unit of S more to the next
-pub on-row-border : (s : Settings) → settingsGood s ≡ true → (S i : ℕ) → i < 4 → 10000 * S ≡ percent s (rowPercent i)
-    → (rowOf s S ≡ i) × (rowOf s (suc S) ≡ suc i)
-on-row-border s g S i l e = (le-antisymm low (not-less i l e), le-antisymm (next i l e) more)
+-- two percentages are further apart than one unit of S
+percents-apart : (s : Settings) → 8000000 ≤ full s → (p q : ℕ) → p < q → percent s p + 10000 ≤ percent s q
+percents-apart s g p q l =
+    let step : (p * p + 1) * full s ≤ q * q * full s = mul-le-mul-right (full s) (squares-apart p q l) in
+    omega (arith, step, add-mul (p * p) 1 (full s), percent-is s p, percent-is s q)
   where
-    apart : (i : ℕ) → i < 3 → percent s (rowPercent i) + 10000 ≤ percent s (rowPercent (suc i))
-    apart = rows-apart s (full-least s (good s g))
+    squares-apart : (p q : ℕ) → p < q → p * p + 1 ≤ q * q
+    squares-apart p q l = let m : suc p * suc p ≤ q * q = mul-le-mul l l in omega arith
 
-    low : rowOf s S ≤ i
-    low = row-is s S i l .1 (omega arith)
+module _ (s : Settings) (b : Borders) (rises : rising (b .rows) ≡ true) where
+  -- THE LAW: an extreme lies in row i or a deeper one exactly if V is at most border i
+  pub row-is : (S i : ℕ) → i < length (b .rows) → (rowOf s b S ≤ i) ↔ (10000 * S ≤ percent s (getD (b .rows) i 0))
+  unfolding rowOf
+  row-is S i l =
+      Iff·trans (place-at-most (λ p. not (atMost s p S)) (above-falls s S) (b .rows) rises i l) (not-above s (getD (b .rows) i 0) S)
 
-    not-less : (i : ℕ) → i < 4 → 10000 * S ≡ percent s (rowPercent i) → i ≤ rowOf s S
-    not-less zero l e = omega arith
-    not-less (suc i) l e =
-        ⊎-elim (λ u. absurd (omega (arith, row-is s S i (omega arith) .0 (omega arith), apart i (omega arith)))) (λ u. u) (lower (rowOf s S) (suc i))
+  -- a voltage on a border goes to the deeper row, and one unit of S more to the next
+  pub on-row-border : settingsGood s ≡ true → (S i : ℕ) → i < length (b .rows) → 10000 * S ≡ percent s (getD (b .rows) i 0)
+      → (rowOf s b S ≡ i) × (rowOf s b (suc S) ≡ suc i)
+  on-row-border g S i l e = (le-antisymm low (not-less i l e), le-antisymm (next (lower (suc i) (length (b .rows)))) more)
+    where
+      apart : (i : ℕ) → suc i < length (b .rows) → percent s (getD (b .rows) i 0) + 10000 ≤ percent s (getD (b .rows) (suc i) 0)
+      apart i l = percents-apart s (full-least s (good s g)) (getD (b .rows) i 0) (getD (b .rows) (suc i) 0) (rising-step (b .rows) rises i l)
 
-    more : suc i ≤ rowOf s (suc S)
-    more = ⊎-elim (λ u. absurd (omega (arith, row-is s (suc S) i l .0 (omega arith)))) (λ u. u) (lower (rowOf s (suc S)) (suc i))
+      low : rowOf s b S ≤ i
+      low = row-is S i l .1 (omega arith)
 
-    next : (i : ℕ) → i < 4 → 10000 * S ≡ percent s (rowPercent i) → rowOf s (suc S) ≤ suc i
-    next i l e =
-        ⊎-elim
-        (λ u. row-is s (suc S) (suc i) (omega arith) .1 (omega (arith, apart i (omega arith))))
-        (λ u. omega (arith, row-high s (suc S)))
-        (lower (suc i) 4)
+      not-less : (i : ℕ) → i < length (b .rows) → 10000 * S ≡ percent s (getD (b .rows) i 0) → i ≤ rowOf s b S
+      not-less zero l e = omega arith
+      not-less (suc i) l e =
+          ⊎-elim (λ u. absurd (omega (arith, row-is S i (omega arith) .0 (omega arith), apart i l))) (λ u. u) (lower (rowOf s b S) (suc i))
 
--- ---- columns
+      more : suc i ≤ rowOf s b (suc S)
+      more = ⊎-elim (λ u. absurd (omega (arith, row-is (suc S) i l .0 (omega arith)))) (λ u. u) (lower (rowOf s b (suc S)) (suc i))
 
-short-falls : (h : ℕ) → Falling (λ b. leb b (5 * h))
+      next : (suc i < length (b .rows)) ⊎ (length (b .rows) ≤ suc i) → rowOf s b (suc S) ≤ suc i
+      next (inl u) = row-is (suc S) (suc i) u .1 (omega (arith, apart i u))
+      next (inr u) = omega (arith, row-high s b (suc S))
+
+-- ---- columns, by any borders
+
+short-falls : (h : ℕ) → Falling (λ p. leb p (5 * h))
 short-falls h b c l e = le-leb b (5 * h) (omega (arith, leb-true c (5 * h) e))
 
-column-border : (f h i : ℕ) → i < 7 → (leb (getD (columnBorders f) i 0) (5 * h) ≡ false) ↔ Against _<_ i f h
-column-border f h zero l = (λ e. omega (arith, leb-false (5 * 2) (5 * h) e), λ u. lt-leb (5 * 2) (5 * h) (omega arith))
-column-border f h (suc zero) l = (λ e. leb-false f (5 * h) e, λ u. lt-leb f (5 * h) u)
-column-border f h (suc (suc zero)) l = (λ e. omega (arith, leb-false (5 * f) (5 * h) e), λ u. lt-leb (5 * f) (5 * h) (omega arith))
-column-border f h (suc (suc (suc zero))) l =
-    (λ e. omega (arith, leb-false (5 * (2 * f)) (5 * h) e), λ u. lt-leb (5 * (2 * f)) (5 * h) (omega arith))
-column-border f h (suc (suc (suc (suc zero)))) l =
-    (λ e. omega (arith, leb-false (5 * (6 * f)) (5 * h) e), λ u. lt-leb (5 * (6 * f)) (5 * h) (omega arith))
-column-border f h (suc (suc (suc (suc (suc zero))))) l =
-    (λ e. omega (arith, leb-false (5 * (40 * f)) (5 * h) e), λ u. lt-leb (5 * (40 * f)) (5 * h) (omega arith))
-column-border f h (suc (suc (suc (suc (suc (suc zero)))))) l =
-    (λ e. omega (arith, leb-false (5 * (120 * f)) (5 * h) e), λ u. lt-leb (5 * (120 * f)) (5 * h) (omega arith))
-column-border f h (suc (suc (suc (suc (suc (suc (suc i))))))) l = absurd (omega arith)
+module _ (b : Borders) (rises : rising (b .columns) ≡ true) where
+  -- THE LAW: a duration lies in column i or a shorter one exactly if it is below border i
+  pub column-is : (h i : ℕ) → i < length (b .columns) → (columnOf b h ≤ i) ↔ (5 * h < getD (b .columns) i 0)
+  unfolding columnOf
+  column-is h i l =
+      Iff·trans (place-at-most (λ p. leb p (5 * h)) (short-falls h) (b .columns) rises i l)
+      (leb-false (getD (b .columns) i 0) (5 * h), lt-leb (getD (b .columns) i 0) (5 * h))
 
--- THE LAW: a duration lies in column i or a shorter one exactly if h is below 2; 5h < f (0.1 s); h < f (0.5 s); h < 2f; h < 6f;
--- h < 40f; h < 120f
-pub column-is : (f : ℕ) → 50 ≤ f → (h i : ℕ) → i < 7 → (columnOf f h ≤ i) ↔ Against _<_ i f h
-unfolding columnOf
-column-is f g h i l =
-    Iff·trans (place-at-most (λ b. leb b (5 * h)) (short-falls h) (columnBorders f) (columns-rise f g) i l) (column-border f h i l)
+  -- a duration on a border goes to the longer column, and one half-cycle less to a shorter one
+  pub on-column-border : (h i : ℕ) → i < length (b .columns) → 5 * suc h ≡ getD (b .columns) i 0
+      → (columnOf b h ≤ i) × (columnOf b (suc h) ≡ suc i)
+  on-column-border h i l e = (column-is h i l .1 (omega arith), le-antisymm (next (lower (suc i) (length (b .columns)))) more)
+    where
+      more : suc i ≤ columnOf b (suc h)
+      more = ⊎-elim (λ u. absurd (omega (arith, column-is (suc h) i l .0 (omega arith)))) (λ u. u) (lower (columnOf b (suc h)) (suc i))
 
--- on border i, and one half-cycle before it
-at-border : (f h i : ℕ) → Against _≡_ i f (suc h) → Against _<_ i f h × (Against _<_ i f (suc h) → ⊥)
-at-border f h zero e = omega arith
-at-border f h (suc zero) e = omega arith
-at-border f h (suc (suc zero)) e = omega arith
-at-border f h (suc (suc (suc zero))) e = omega arith
-at-border f h (suc (suc (suc (suc zero)))) e = omega arith
-at-border f h (suc (suc (suc (suc (suc zero))))) e = omega arith
-at-border f h (suc (suc (suc (suc (suc (suc i)))))) e = omega arith
+      next : (suc i < length (b .columns)) ⊎ (length (b .columns) ≤ suc i) → columnOf b (suc h) ≤ suc i
+      next (inl u) = column-is (suc h) (suc i) u .1 (omega (arith, rising-step (b .columns) rises i u))
+      next (inr u) = omega (arith, column-high b (suc h))
 
--- a border is below the next, by more than one half-cycle
-next-border : (f : ℕ) → 50 ≤ f → (h i : ℕ) → i < 6
-    → (Against _≡_ i f h → Against _<_ (suc i) f h) × (Against _≡_ (suc i) f (suc h) → Against _<_ i f h → ⊥)
-next-border f g h zero l = omega arith
-next-border f g h (suc zero) l = omega arith
-next-border f g h (suc (suc zero)) l = omega arith
-next-border f g h (suc (suc (suc zero))) l = omega arith
-next-border f g h (suc (suc (suc (suc zero)))) l = omega arith
-next-border f g h (suc (suc (suc (suc (suc zero))))) l = omega arith
-next-border f g h (suc (suc (suc (suc (suc (suc i)))))) l = absurd (omega arith)
+-- ---- set 0 and set 1, in the words of the documents
 
--- a duration on a border goes to the longer column, and one half-cycle less to the column before
-pub on-column-border : (f : ℕ) → 50 ≤ f → (h i : ℕ) → i < 7 → Against _≡_ i f (suc h) → (columnOf f h ≡ i) × (columnOf f (suc h) ≡ suc i)
-on-column-border f g h i l e = (le-antisymm low (not-less i l e), le-antisymm (next (lower i 6)) more)
-  where
-    low : columnOf f h ≤ i
-    low = column-is f g h i l .1 (at-border f h i e .0)
+pub set-is-known : (set : ℕ) → (knownSet set ≡ true) ↔ (set < 2)
+unfolding knownSet
+set-is-known set = (ltb-true set 2, lt-ltb set 2)
 
-    not-less : (i : ℕ) → i < 7 → Against _≡_ i f (suc h) → i ≤ columnOf f h
-    not-less zero l e = omega arith
-    not-less (suc i) l e =
-        ⊎-elim (λ u. absurd (next-border f g h i (omega arith) .1 e (column-is f g h i (omega arith) .0 (omega arith)))) (λ u. u)
-        (lower (columnOf f h) (suc i))
+pub set-sizes : (s : Settings) (set : ℕ) → set < 2
+    → (length (bordersOf s set .rows) ≡ 4) × (length (bordersOf s set .columns) ≡ columnBorders set)
+unfolding bordersOf
+set-sizes s zero l = (refl, refl)
+set-sizes s (suc zero) l = (refl, refl)
+set-sizes s (suc (suc set)) l = absurd (omega arith)
 
-    more : suc i ≤ columnOf f (suc h)
-    more =
-        ⊎-elim (λ u. absurd (at-border f h i e .1 (column-is f g (suc h) i l .0 (omega arith)))) (λ u. u)
-        (lower (columnOf f (suc h)) (suc i))
+row-border : (s : Settings) (set i : ℕ) → set < 2 → i < 4 → getD (bordersOf s set .rows) i 0 ≡ rowPercent set i
+unfolding bordersOf
+row-border s zero zero l u = refl
+row-border s zero (suc zero) l u = refl
+row-border s zero (suc (suc zero)) l u = refl
+row-border s zero (suc (suc (suc zero))) l u = refl
+row-border s zero (suc (suc (suc (suc i)))) l u = absurd (omega arith)
+row-border s (suc zero) zero l u = refl
+row-border s (suc zero) (suc zero) l u = refl
+row-border s (suc zero) (suc (suc zero)) l u = refl
+row-border s (suc zero) (suc (suc (suc zero))) l u = refl
+row-border s (suc zero) (suc (suc (suc (suc i)))) l u = absurd (omega arith)
+row-border s (suc (suc set)) i l u = absurd (omega arith)
 
-    next : (i < 6) ⊎ (6 ≤ i) → columnOf f (suc h) ≤ suc i
-    next (inl u) = column-is f g (suc h) (suc i) (omega arith) .1 (next-border f g (suc h) i u .0 e)
-    next (inr u) = omega (arith, column-high f (suc h))
+column-border : (s : Settings) (set h i : ℕ) → set < 2 → i < columnBorders set
+    → (5 * h < getD (bordersOf s set .columns) i 0) ↔ Against _<_ set i (s .f) h
+unfolding bordersOf
+column-border s zero h zero l u = omega arith
+column-border s zero h (suc zero) l u = omega arith
+column-border s zero h (suc (suc zero)) l u = omega arith
+column-border s zero h (suc (suc (suc zero))) l u = omega arith
+column-border s zero h (suc (suc (suc (suc zero)))) l u = omega arith
+column-border s zero h (suc (suc (suc (suc (suc zero))))) l u = omega arith
+column-border s zero h (suc (suc (suc (suc (suc (suc zero)))))) l u = omega arith
+column-border s zero h (suc (suc (suc (suc (suc (suc (suc i))))))) l u = absurd (omega arith)
+column-border s (suc zero) h zero l u = omega arith
+column-border s (suc zero) h (suc zero) l u = omega arith
+column-border s (suc zero) h (suc (suc zero)) l u = omega arith
+column-border s (suc zero) h (suc (suc (suc zero))) l u = omega arith
+column-border s (suc zero) h (suc (suc (suc (suc i)))) l u = absurd (omega arith)
+column-border s (suc (suc set)) h i l u = absurd (omega arith)
+
+module _ (s : Settings) (g : settingsGood s ≡ true) (set : ℕ) (two : set < 2) where
+  -- THE LAW: an extreme lies in row i or a deeper one exactly if V is at most 10, 40, 70, and 85 percent, in set 1 80
+  pub set-row-is : (S i : ℕ) → i < 4 → (rowOf s (bordersOf s set) S ≤ i) ↔ (10000 * S ≤ percent s (rowPercent set i))
+  set-row-is S i l =
+      rw (← (row-border s set i two l))
+      (row-is s (bordersOf s set) (set-rows-rise s g set (set-is-known set .1 two)) S i (omega (arith, set-sizes s set two .0)))
+
+  -- THE LAW: a duration lies in column i or a shorter one exactly if, in set 0, h is below 2; 5h < f (0.1 s); h < f (0.5 s); h < 2f;
+  -- h < 6f; h < 40f; h < 120f; in set 1, h is below 2; 5h < 2f (200 ms); h < f (500 ms); h < 10f (5 s)
+  pub set-column-is : (h i : ℕ) → i < columnBorders set → (columnOf (bordersOf s set) h ≤ i) ↔ Against _<_ set i (s .f) h
+  set-column-is h i l =
+      Iff·trans
+      (column-is (bordersOf s set) (set-columns-rise s g set (set-is-known set .1 two)) h i (omega (arith, set-sizes s set two .1)))
+      (column-border s set h i two l)
 
 -- ---- the curve
 

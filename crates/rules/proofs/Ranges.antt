@@ -2,6 +2,7 @@
 use Prim.Native.Nat.{ℕ, _*_, _%_, _≤_}
 use mathlib.Core.Path.{_≡_, refl}
 use mathlib.Core.Bool.{Bool, true, false, not, _||_, cond, false≢true}
+use mathlib.Core.Logic.{_⊎_, inl, inr}
 use native.Mathlib.Nat.{le-refl, mul-le-mul}
 use native.Mathlib.Omega.{arith}
 use borrow.Author.Tests.{leb-true, eqb-true}
@@ -61,6 +62,18 @@ good s h =
       swell-high = swell .1;
       hysteresis-high = leb-true (s .hysteresis) 5 (p .6);
     }
+
+-- f is one of two
+pub two-frequencies : (s : Settings) → settingsGood s ≡ true → (s .f ≡ 50) ⊎ (s .f ≡ 60)
+unfolding settingsGood badSetting
+two-frequencies s h =
+    let p =
+    all-pass (nGood (s .n)) (within 1000 50000 (s .r)) (fGood (s .f)) (within 50 95 (s .sag)) (within 1 20 (s .interruption)) (within 105 150 (s .swell)) (leb (s .hysteresis) 5) (eqb-true (badSetting s) 0 h) in
+    go (eqb (s .f) 50) refl (p .2)
+  where
+    go : (b : Bool) → eqb (s .f) 50 ≡ b → b || eqb (s .f) 60 ≡ true → (s .f ≡ 50) ⊎ (s .f ≡ 60)
+    go true e q = inl (eqb-true (s .f) 50 e)
+    go false e q = inr (eqb-true (s .f) 60 q)
 
 -- ---- N x R x R
 

@@ -1,6 +1,6 @@
 -- What the theorems of the three demands, and the laws that docs/STATEMENTS.md names beside them, speak of besides the rules: what an
 -- accepting check says, in an event told by the half-cycle before, a list in order, what has a score, the largest whole number,
--- a sag that contains an interruption, places among borders, recordings offered to a table one after the other, and a sound table.
+-- a sag that contains an interruption, places among borders and the cell that takes a sag, recordings offered to a table one after the other, and a sound table.
 use Prim.Native.Nat.{ℕ, suc, _+_, _-_, _*_, _/_, _%_, _≤_, _<_}
 use mathlib.Core.Path.{_≡_}
 use mathlib.Core.Bool.{Bool, true, not, _&&_, _||_, cond}
@@ -10,9 +10,10 @@ use lib.IntN.{ℤ, pos}
 use lib.ListN.{length, getD}
 use Rattle.rules.specs.Bounded.{all, count}
 use Rattle.rules.specs.Recorder.{inRange, settingsGood}
-use Rattle.rules.specs.Halves.{ofChannel, samplesOf, halfAt, halvesOf, known, full}
+use Rattle.rules.specs.Halves.{ofChannel, samplesOf, halfAt, halvesOf, known, full, atMost}
 use Rattle.rules.specs.Events.{begins, ends, starts, endOf, three}
 use Rattle.rules.specs.EventList.{kindNumber, eventsOf}
+use Rattle.rules.specs.Borders.{Borders, knownSet, bordersOf, columnsIn, cellsIn}
 use Rattle.rules.specs.Scores.{isSag, isEvent}
 use Rattle.rules.specs.Site.{isHealthy, isDisturbed, isUnknown, isPlaced, isUnplaced, sagCell, sagShort, sagShorts, cells, total, mostHalves}
 use Rattle.rules.specs.Refusals.{recordingCheck, byCheck, andThen, addCheck, added}
@@ -142,6 +143,16 @@ liesIn passed bs i =
 abbrev pub Falling : (ℕ → Bool) → Type 0
 Falling passed = (b c : ℕ) → b ≤ c → passed c ≡ true → passed b ≡ true
 
+-- both lists of a set rise, and there are at most forty cells
+abbrev pub fits : Borders → Bool
+fits b = rising (b .rows) && rising (b .columns) && leb (cellsIn b) cells
+
+-- cell i takes an extreme and a duration of h half-cycles: the extreme lies in its row and the duration in its column
+unfoldable pub takes : Settings → Borders → ℕ → ℕ → ℕ → Bool
+takes s b extreme h i =
+    liesIn (λ p. not (atMost s p extreme)) (b .rows) (i / columnsIn b)
+    && liesIn (λ p. leb p (5 * h)) (b .columns) (i % columnsIn b)
+
 -- ---- Demand 3: recordings offered in sequence
 
 -- each in turn handed to `added`, and the table taken on
@@ -171,32 +182,37 @@ abbrev pub sumOver : (List ℤ → ℕ) → List (List ℤ) → ℕ
 sumOver g [] = 0
 sumOver g (xs ∷ rs) = g xs + sumOver g rs
 
--- the sags of a recording that go in cell i
-abbrev pub placedIn : Settings → List ℤ → ℕ → ℕ
-placedIn s xs i = let h = halfAt s xs in let n = halvesOf s xs in count (λ k. isPlaced s h n k && eqb (sagCell s h n k) i) n
+-- the sags of a recording that go in cell i, by any borders
+abbrev pub placedIn : Settings → Borders → List ℤ → ℕ → ℕ
+placedIn s b xs i = let h = halfAt s xs in let n = halvesOf s xs in count (λ k. isPlaced s h n k && eqb (sagCell s b h n k) i) n
 
 -- what a table that is not unsound is, part by part: each condition of `isUnsound` turned round, the
 -- one on event kinds as three
 pub record Sound (t : Table) : Type 0 where
   pub good-settings : settingsGood (t .settings) ≡ true
+  pub known-set : knownSet (t .set) ≡ true
   pub total-high : t .total ≤ 4000000
   pub classes : t .healthy + t .disturbed + t .unknown ≡ t .total
   pub places : total (t .cells) + t .unplaced ≡ t .sags
+  pub unused : (i : ℕ) → cellsIn (bordersOf (t .settings) (t .set)) ≤ i → i < cells → getD (t .cells) i 0 ≡ 0
   pub sags-high : t .sags ≤ t .total
   pub interruptions-high : t .interruptions ≤ t .total
   pub swells-high : t .swells ≤ t .total
   pub shortfall-high : t .shortfall ≤ 3 * full (t .settings) * t .total
   pub parts : three (t .parts) ≡ t .shortfall
 
--- a table with settings s holds what the recordings add up to: each count its own, each straight from the samples
-pub record SumsUp (s : Settings) (t : Table) (rs : List (List ℤ)) : Type 0 where
+-- a table with settings s and a set of borders holds what the recordings add up to: each count its own, each straight from the
+-- samples, and all cells of the set
+pub record SumsUp (s : Settings) (set : ℕ) (t : Table) (rs : List (List ℤ)) : Type 0 where
   pub settings : t .settings ≡ s
+  pub same-set : t .set ≡ set
   pub total : t .total ≡ sumOver (halvesOf s) rs
   pub healthy : t .healthy ≡ sumOver (λ xs. count (isHealthy s (halfAt s xs)) (halvesOf s xs)) rs
   pub disturbed : t .disturbed ≡ sumOver (λ xs. count (isDisturbed s (halfAt s xs)) (halvesOf s xs)) rs
   pub unknown : t .unknown ≡ sumOver (λ xs. count (isUnknown s (halfAt s xs)) (halvesOf s xs)) rs
   pub forty : length (t .cells) ≡ cells
-  pub placed : (i : ℕ) → i < cells → getD (t .cells) i 0 ≡ sumOver (λ xs. placedIn s xs i) rs
+  pub placed : (i : ℕ) → i < cellsIn (bordersOf s set) → getD (t .cells) i 0 ≡ sumOver (λ xs. placedIn s (bordersOf s set) xs i) rs
+  pub unused : (i : ℕ) → cellsIn (bordersOf s set) ≤ i → i < cells → getD (t .cells) i 0 ≡ 0
   pub unplaced : t .unplaced ≡ sumOver (λ xs. count (isUnplaced s (halfAt s xs) (halvesOf s xs)) (halvesOf s xs)) rs
   pub sags : t .sags ≡ sumOver (λ xs. count (starts s (halfAt s xs) Sag) (halvesOf s xs)) rs
   pub interruptions : t .interruptions ≡ sumOver (λ xs. count (starts s (halfAt s xs) Interruption) (halvesOf s xs)) rs

@@ -1,6 +1,6 @@
--- The known answers: one table of cases, one statement. K1 to K12, each a recording; and sags on both sides of the curve's last
--- border, on both sides of a retained value's half, and with shortfalls of the channels that make up the whole or don't, each by its
--- event words.
+-- The known answers: one table of cases, one statement. K1 to K12, each a recording, by both sets of borders; and sags on both sides of
+-- the curve's last border, on both sides of a retained value's half, with shortfalls of the channels that make up the whole or don't,
+-- and by a set of borders that is known or not, each by its event words.
 use Prim.Native.Nat.{ℕ, _+_, _*_}
 use mathlib.Core.Path.{_≡_, refl}
 use mathlib.Core.List.{List, [], _∷_, _++_, map}
@@ -11,9 +11,10 @@ use Rattle.rules.specs.Recorder.{firstBad, badSetting, settingsGood}
 use Rattle.rules.specs.Halves.{channels, halvesOf, anyMissing, squares, sumsAt, halfAt, full}
 use Rattle.rules.specs.Events.{carries, inRun, inEvent, starts, endOf, seenOf, extremeOf, earliest, climb, retainedOf, shortsOf, sixSums, typeOf}
 use Rattle.rules.specs.EventList.{eventFrom, eventAt, eventsOf}
-use Rattle.rules.specs.Scores.{inBounds, sagGood, isEvent, reasonOf, scoring, millisOf}
-use Rattle.rules.specs.Site.{rowOf, columnOf, cellOf, isHealthy, isDisturbed, isUnknown, isPlaced, isUnplaced, sagCell, sagSum, sagShort, grown, isUnsound}
-use Rattle.rules.specs.Refusals.{recordingCheck, settingsCheck, roomCheck, listCheck, listed, written, freshened, soundCheck, fullCheck, addCheck, added}
+use Rattle.rules.specs.Borders.{knownSet, bordersOf, rowOf, columnOf}
+use Rattle.rules.specs.Scores.{inBounds, sagGood, isEvent, reasonOf, reasonBy, scoring, scoringBy, millisOf}
+use Rattle.rules.specs.Site.{cellOf, isHealthy, isDisturbed, isUnknown, isPlaced, isUnplaced, sagCell, sagSum, sagShort, grown, isUnsound}
+use Rattle.rules.specs.Refusals.{recordingCheck, settingsCheck, setCheck, roomCheck, listCheck, listed, written, freshened, soundCheck, fullCheck, addCheck, added}
 use Rattle.rules.specs.declared.Settings.{Settings}
 use Rattle.rules.specs.declared.Sums.{Sums}
 use Rattle.rules.specs.declared.Event.{Event}
@@ -44,8 +45,8 @@ abbrev pub dip : ℕ → List ℤ
 dip v = blocks (1000 ∷ 1000 ∷ v ∷ v ∷ 1000 ∷ 1000 ∷ [])
 
 -- what the rules say of a recording: the answer of the list and the lent run, 23 numbers that were all 9; then of each event its
--- score, milliseconds of its shortfall, row and cell; then the table of a fresh site that was offered it, and the shortfall of each
--- channel straight from its samples
+-- score, milliseconds of its shortfall, row, and its cell by set 0 and by set 1; then the tables of two fresh sites, of set 0 and of
+-- set 1, that were offered it, and the shortfall of each channel straight from its samples
 record Case : Type 0 where
   given : List ℤ
   answer : Listed
@@ -54,7 +55,8 @@ record Case : Type 0 where
   millis : List ℕ
   rows : List ℕ
   cells : List ℕ
-  site : Handed
+  others : List ℕ
+  sites : List Handed
   straight : Sums
 
 answersTo : List ℤ → Case
@@ -66,48 +68,55 @@ answersTo xs =
       run = written settings xs (replicate 23 9);
       scores = map (scoring settings) events;
       millis = map (λ (e : Event). millisOf settings (e .shortfall)) events;
-      rows = map (λ (e : Event). rowOf settings (e .extreme)) events;
-      cells = map (cellOf settings) events;
-      site = added (freshened settings .table) xs;
+      rows = map (λ (e : Event). rowOf settings (bordersOf settings 0) (e .extreme)) events;
+      cells = map (cellOf settings 0) events;
+      others = map (cellOf settings 1) events;
+      sites = added (freshened settings 0 .table) xs ∷ added (freshened settings 1 .table) xs ∷ [];
       straight = channels (sagShort settings xs);
     }
 
--- what the rules say of event words under settings: score and cell
+-- what the rules say of event words under settings and a set of borders: score and cell
 record Judged : Type 0 where
   under : Settings
+  set : ℕ
   event : Event
   score : Scoring
   cell : ℕ
 
-judgedOf : Settings → Event → Judged
-judgedOf s e = record { under = s; event = e; score = scoring s e; cell = cellOf s e }
+judgedOf : Settings → ℕ → Event → Judged
+judgedOf s set e = record { under = s; set = set; event = e; score = scoringBy s set e; cell = cellOf s set e }
 
 -- a score by the bits of its two floats
 abbrev bits : ℕ → ℕ → Scoring
 bits severity energy = Scored (record { severity = ofBits binary64 severity; energy = ofBits binary64 energy })
 
--- the table after one recording: total, healthy, disturbed, unknown; cells; unplaced; sags, interruptions, swells; shortfall,
--- and that of each channel
-abbrev after : ℕ → ℕ → ℕ → ℕ → List ℕ → ℕ → ℕ → ℕ → ℕ → ℕ → Sums → Handed
-after total healthy disturbed unknown cells unplaced sags interruptions swells shortfall parts =
-    record {
-      answer = Accepted;
-      table =
-          record {
-            settings = settings;
-            total = total;
-            healthy = healthy;
-            disturbed = disturbed;
-            unknown = unknown;
-            cells = cells;
-            unplaced = unplaced;
-            sags = sags;
-            interruptions = interruptions;
-            swells = swells;
-            shortfall = shortfall;
-            parts = parts;
-          };
-    }
+-- the tables of set 0 and of set 1 after one recording: total, healthy, disturbed, unknown; cells of the one and of the other;
+-- unplaced; sags, interruptions, swells; shortfall, and that of each channel
+abbrev after : ℕ → ℕ → ℕ → ℕ → List ℕ → List ℕ → ℕ → ℕ → ℕ → ℕ → ℕ → Sums → List Handed
+after total healthy disturbed unknown cells others unplaced sags interruptions swells shortfall parts =
+    taken 0 cells ∷ taken 1 others ∷ []
+  where
+    taken : ℕ → List ℕ → Handed
+    taken set cells =
+        record {
+          answer = Accepted;
+          table =
+              record {
+                settings = settings;
+                set = set;
+                total = total;
+                healthy = healthy;
+                disturbed = disturbed;
+                unknown = unknown;
+                cells = cells;
+                unplaced = unplaced;
+                sags = sags;
+                interruptions = interruptions;
+                swells = swells;
+                shortfall = shortfall;
+                parts = parts;
+              };
+        }
 
 -- a, b and c; the same of all three
 abbrev abc : ℕ → ℕ → ℕ → Sums
@@ -136,7 +145,8 @@ cases =
       millis = [];
       rows = [];
       cells = [];
-      site = after 5 5 0 0 none 0 0 0 0 0 (alike 0);
+      others = [];
+      sites = after 5 5 0 0 none none 0 0 0 0 0 (alike 0);
       straight = alike 0;
     }
     -- K2: severity 1, energy 0.045
@@ -148,7 +158,8 @@ cases =
       millis = 45 ∷ [];
       rows = 2 ∷ [];
       cells = 17 ∷ [];
-      site = after 5 2 3 0 (cell 17) 0 1 0 0 36000000 (alike 12000000);
+      others = 11 ∷ [];
+      sites = after 5 2 3 0 (cell 17) (cell 11) 0 1 0 0 36000000 (alike 12000000);
       straight = alike 12000000;
     }
     -- K3
@@ -160,7 +171,8 @@ cases =
       millis = [];
       rows = [];
       cells = [];
-      site = after 5 5 0 0 none 0 0 0 0 0 (alike 0);
+      others = [];
+      sites = after 5 5 0 0 none none 0 0 0 0 0 (alike 0);
       straight = alike 0;
     }
     -- K4: severity 0.101, energy 0.005
@@ -172,7 +184,8 @@ cases =
       millis = 5 ∷ [];
       rows = 4 ∷ [];
       cells = 32 ∷ [];
-      site = after 5 4 1 0 (cell 32) 0 1 0 0 4603176 (alike 1534392);
+      others = 20 ∷ [];
+      sites = after 5 4 1 0 (cell 32) (cell 20) 0 1 0 0 4603176 (alike 1534392);
       straight = alike 1534392;
     }
     -- K5: severity 0.202, energy 0.005
@@ -184,7 +197,8 @@ cases =
       millis = 5 ∷ [];
       rows = 4 ∷ [];
       cells = 33 ∷ [];
-      site = after 6 2 4 0 (cell 33) 0 1 0 0 4603176 (alike 1534392);
+      others = 21 ∷ [];
+      sites = after 6 2 4 0 (cell 33) (cell 21) 0 1 0 0 4603176 (alike 1534392);
       straight = alike 1534392;
     }
     -- K6: severity 2, energy 0.06
@@ -198,7 +212,8 @@ cases =
       millis = 60 ∷ 0 ∷ [];
       rows = 0 ∷ 0 ∷ [];
       cells = 1 ∷ 40 ∷ [];
-      site = after 5 2 3 0 (cell 1) 0 1 1 0 48000000 (alike 16000000);
+      others = 1 ∷ 25 ∷ [];
+      sites = after 5 2 3 0 (cell 1) (cell 1) 0 1 1 0 48000000 (alike 16000000);
       straight = alike 16000000;
     }
     -- K7: retained 101, by 100.501; severity 1.798, energy 0.059
@@ -210,7 +225,8 @@ cases =
       millis = 59 ∷ [];
       rows = 1 ∷ [];
       cells = 9 ∷ [];
-      site = after 5 2 3 0 (cell 9) 0 1 0 0 47515176 (alike 15838392);
+      others = 6 ∷ [];
+      sites = after 5 2 3 0 (cell 9) (cell 6) 0 1 0 0 47515176 (alike 15838392);
       straight = alike 15838392;
     }
     -- K8
@@ -222,7 +238,8 @@ cases =
       millis = 33 ∷ [];
       rows = 2 ∷ [];
       cells = 40 ∷ [];
-      site = after 3 1 2 0 none 1 1 0 0 27000000 (alike 9000000);
+      others = 25 ∷ [];
+      sites = after 3 1 2 0 none none 1 1 0 0 27000000 (alike 9000000);
       straight = alike 9000000;
     }
     -- K9: one sample of the fifth block missing
@@ -236,7 +253,8 @@ cases =
       millis = 33 ∷ 11 ∷ [];
       rows = 2 ∷ 3 ∷ [];
       cells = 40 ∷ 40 ∷ [];
-      site = after 7 2 3 2 none 2 2 0 0 36000000 (alike 12000000);
+      others = 25 ∷ 25 ∷ [];
+      sites = after 7 2 3 2 none none 2 2 0 0 36000000 (alike 12000000);
       straight = alike 12000000;
     }
     -- K10
@@ -248,7 +266,8 @@ cases =
       millis = 0 ∷ [];
       rows = 4 ∷ [];
       cells = 40 ∷ [];
-      site = after 5 2 3 0 none 0 0 0 1 0 (alike 0);
+      others = 25 ∷ [];
+      sites = after 5 2 3 0 none none 0 0 0 1 0 (alike 0);
       straight = alike 0;
     }
     -- K11
@@ -260,7 +279,8 @@ cases =
       millis = 22 ∷ [];
       rows = 2 ∷ [];
       cells = 40 ∷ [];
-      site = after 1 0 1 0 none 1 1 0 0 18000000 (alike 6000000);
+      others = 25 ∷ [];
+      sites = after 1 0 1 0 none none 1 1 0 0 18000000 (alike 6000000);
       straight = alike 6000000;
     }
     -- K12: K2 on channel a only; severity 1, energy 0.015
@@ -272,7 +292,8 @@ cases =
       millis = 15 ∷ [];
       rows = 2 ∷ [];
       cells = 17 ∷ [];
-      site = after 5 2 3 0 (cell 17) 0 1 0 0 12000000 (abc 12000000 0 0);
+      others = 11 ∷ [];
+      sites = after 5 2 3 0 (cell 17) (cell 11) 0 1 0 0 12000000 (abc 12000000 0 0);
       straight = abc 12000000 0 0;
     }
     ∷ []
@@ -280,6 +301,10 @@ cases =
 -- the same settings with f 60
 abbrev sixty : Settings
 sixty = record { n = 8; r = 1000; f = 60; sag = 90; interruption = 10; swell = 110; hysteresis = 2 }
+
+-- a frequency that is not allowed
+abbrev hundred : Settings
+hundred = record { n = 8; r = 1000; f = 100; sag = 90; interruption = 10; swell = 110; hysteresis = 2 }
 
 -- a sag of h half-cycles at 899 on all channels, both ends seen: K4's extreme, and in each half-cycle K4's shortfall
 abbrev at899 : ℕ → Event
@@ -329,24 +354,34 @@ shared parts =
 judged : List Judged
 judged =
     -- h = 20 f, by 800: 101 / 200 = 0.505, energy 5.753
-    record { under = settings; event = at899 1000; score = bits 0x3fe0_28f5_c28f_5c29 0x4017_0312_6e97_8d50; cell = 37 }
+    record { under = settings; set = 0; event = at899 1000; score = bits 0x3fe0_28f5_c28f_5c29 0x4017_0312_6e97_8d50; cell = 37 }
     -- h = 20 f + 1, by 900: 101 / 100 = 1.01, energy 5.759
-    ∷ record { under = settings; event = at899 1001; score = bits 0x3ff0_28f5_c28f_5c29 0x4017_0937_4bc6_a7f0; cell = 37 }
+    ∷ record { under = settings; set = 0; event = at899 1001; score = bits 0x3ff0_28f5_c28f_5c29 0x4017_0937_4bc6_a7f0; cell = 37 }
     -- f 60, h = 20 f, by 800: 0.505, energy 5.753
-    ∷ record { under = sixty; event = at899 1200; score = bits 0x3fe0_28f5_c28f_5c29 0x4017_0312_6e97_8d50; cell = 37 }
+    ∷ record { under = sixty; set = 0; event = at899 1200; score = bits 0x3fe0_28f5_c28f_5c29 0x4017_0312_6e97_8d50; cell = 37 }
     -- f 60, h = 20 f + 1, by 900: 1.01, energy 5.758
-    ∷ record { under = sixty; event = at899 1201; score = bits 0x3ff0_28f5_c28f_5c29 0x4017_0831_26e9_78d5; cell = 37 }
+    ∷ record { under = sixty; set = 0; event = at899 1201; score = bits 0x3ff0_28f5_c28f_5c29 0x4017_0831_26e9_78d5; cell = 37 }
     -- exactly 100.5, and the half goes upward: 899 / 500 = 1.798
-    ∷ record { under = settings; event = near100 80802 101; score = bits 0x3ffc_c49b_a5e3_53f8 0x3fae_353f_7ced_9168; cell = 9 }
+    ∷ record { under = settings; set = 0; event = near100 80802 101; score = bits 0x3ffc_c49b_a5e3_53f8 0x3fae_353f_7ced_9168; cell = 9 }
     -- one unit of S below it: 900 / 500 = 1.8
-    ∷ record { under = settings; event = near100 80801 100; score = bits 0x3ffc_cccc_cccc_cccd 0x3fae_353f_7ced_9168; cell = 9 }
+    ∷ record { under = settings; set = 0; event = near100 80801 100; score = bits 0x3ffc_cccc_cccc_cccd 0x3fae_353f_7ced_9168; cell = 9 }
     -- shares that make up the shortfall, whichever they are: severity 1, energy 0.045
-    ∷ record { under = settings; event = shared (abc 35999999 0 1); score = bits 0x3ff0_0000_0000_0000 0x3fa7_0a3d_70a3_d70a; cell = 17 }
+    ∷ record { under = settings; set = 0; event = shared (abc 35999999 0 1); score = bits 0x3ff0_0000_0000_0000 0x3fa7_0a3d_70a3_d70a; cell = 17 }
     -- one short of it; and 2 to the 64th more than it, which 64 bits take for it: not events
-    ∷ record { under = settings; event = shared (abc 35999999 0 0); score = Unscored 5; cell = 40 }
-    ∷ record { under = settings; event = shared (abc 0x8000_0000_0000_0000 0x8000_0000_0000_0000 36000000); score = Unscored 5; cell = 40 }
+    ∷ record { under = settings; set = 0; event = shared (abc 35999999 0 0); score = Unscored 5; cell = 40 }
+    ∷ record { under = settings; set = 0; event = shared (abc 0x8000_0000_0000_0000 0x8000_0000_0000_0000 36000000); score = Unscored 5; cell = 40 }
+    -- by set 1: from 10 f half-cycles, 5 s, on the last column; one less the one before. By set 0 both lie between 3 and 20 s
+    ∷ record { under = settings; set = 1; event = at899 499; score = bits 0x3fe0_28f5_c28f_5c29 0x4006_f7ce_d916_872b; cell = 23 }
+    ∷ record { under = settings; set = 1; event = at899 500; score = bits 0x3fe0_28f5_c28f_5c29 0x4007_020c_49ba_5e35; cell = 24 }
+    ∷ record { under = settings; set = 0; event = at899 499; score = bits 0x3fe0_28f5_c28f_5c29 0x4006_f7ce_d916_872b; cell = 37 }
+    -- under set 1 what is not scored has cell 25, bad settings too
+    ∷ record { under = settings; set = 1; event = shared (abc 35999999 0 0); score = Unscored 5; cell = 25 }
+    ∷ record { under = hundred; set = 1; event = shared (alike 12000000); score = Unscored 6; cell = 25 }
+    -- a set that there is not is reason 6, and 40
+    ∷ record { under = settings; set = 2; event = shared (alike 12000000); score = Unscored 6; cell = 40 }
+    ∷ record { under = settings; set = 2; event = shared (abc 35999999 0 0); score = Unscored 6; cell = 40 }
     ∷ []
 
-known-answers : (map (λ (c : Case). answersTo (c .given)) cases ≡ cases) × (map (λ (c : Judged). judgedOf (c .under) (c .event)) judged ≡ judged)
-unfolding answersTo cases judgedOf judged firstBad badSetting settingsGood halvesOf anyMissing squares sumsAt halfAt full carries inRun inEvent starts endOf seenOf extremeOf earliest climb retainedOf shortsOf sixSums typeOf eventFrom eventAt eventsOf inBounds sagGood isEvent reasonOf scoring rowOf columnOf cellOf isHealthy isDisturbed isUnknown isPlaced isUnplaced sagCell sagSum sagShort grown isUnsound recordingCheck settingsCheck roomCheck listCheck listed written freshened soundCheck fullCheck addCheck added div ofInt ofBits
+known-answers : (map (λ (c : Case). answersTo (c .given)) cases ≡ cases) × (map (λ (c : Judged). judgedOf (c .under) (c .set) (c .event)) judged ≡ judged)
+unfolding answersTo cases judgedOf judged firstBad badSetting settingsGood halvesOf anyMissing squares sumsAt halfAt full carries inRun inEvent starts endOf seenOf extremeOf earliest climb retainedOf shortsOf sixSums typeOf eventFrom eventAt eventsOf inBounds sagGood isEvent reasonOf reasonBy scoring scoringBy knownSet bordersOf rowOf columnOf cellOf isHealthy isDisturbed isUnknown isPlaced isUnplaced sagCell sagSum sagShort grown isUnsound recordingCheck settingsCheck setCheck roomCheck listCheck listed written freshened soundCheck fullCheck addCheck added div ofInt ofBits
 known-answers = (refl, refl)

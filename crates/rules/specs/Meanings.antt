@@ -107,24 +107,34 @@ partOf (suc (suc (suc zero))) a b c = 3 * square (b -ℤ c)
 partOf (suc (suc (suc (suc zero)))) a b c = 3 * square (c -ℤ a)
 partOf (suc (suc (suc (suc (suc j))))) a b c = 3 * square (a -ℤ b)
 
--- ---- rows and columns
+-- ---- rows and columns of set 0 and of set 1
 
 -- rows 0 to 3: V at most so many percent
-abbrev pub rowPercent : ℕ → ℕ
-rowPercent zero = 10
-rowPercent (suc zero) = 40
-rowPercent (suc (suc zero)) = 70
-rowPercent (suc (suc (suc i))) = 85
+abbrev pub rowPercent : ℕ → ℕ → ℕ
+rowPercent set zero = 10
+rowPercent set (suc zero) = 40
+rowPercent set (suc (suc zero)) = 70
+rowPercent zero (suc (suc (suc i))) = 85
+rowPercent (suc set) (suc (suc (suc i))) = 80
 
--- a duration h against the border of column i, 0 to 6, by any relation
-abbrev pub Against : (ℕ → ℕ → Type 0) → ℕ → ℕ → ℕ → Type 0
-Against R zero f h = R h 2
-Against R (suc zero) f h = R (5 * h) f
-Against R (suc (suc zero)) f h = R h f
-Against R (suc (suc (suc zero))) f h = R h (2 * f)
-Against R (suc (suc (suc (suc zero)))) f h = R h (6 * f)
-Against R (suc (suc (suc (suc (suc zero))))) f h = R h (40 * f)
-Against R (suc (suc (suc (suc (suc (suc i)))))) f h = R h (120 * f)
+-- how many borders of columns there are
+abbrev pub columnBorders : ℕ → ℕ
+columnBorders zero = 7
+columnBorders (suc set) = 4
+
+-- a duration h against the border of column i, by any relation
+abbrev pub Against : (ℕ → ℕ → Type 0) → ℕ → ℕ → ℕ → ℕ → Type 0
+Against R zero zero f h = R h 2
+Against R zero (suc zero) f h = R (5 * h) f
+Against R zero (suc (suc zero)) f h = R h f
+Against R zero (suc (suc (suc zero))) f h = R h (2 * f)
+Against R zero (suc (suc (suc (suc zero)))) f h = R h (6 * f)
+Against R zero (suc (suc (suc (suc (suc zero))))) f h = R h (40 * f)
+Against R zero (suc (suc (suc (suc (suc (suc i)))))) f h = R h (120 * f)
+Against R (suc set) zero f h = R h 2
+Against R (suc set) (suc zero) f h = R (5 * h) (2 * f)
+Against R (suc set) (suc (suc zero)) f h = R h f
+Against R (suc set) (suc (suc (suc i))) f h = R h (10 * f)
 
 -- ---- severity
 

@@ -8,6 +8,7 @@ use lib.Dec.{ltb, eqb}
 use Rattle.rules.specs.Recorder.{badSetting, settingsGood, firstBad}
 use Rattle.rules.specs.Halves.{samplesOf, halvesOf}
 use Rattle.rules.specs.EventList.{eventSize, eventsOf, flat}
+use Rattle.rules.specs.Borders.{knownSet}
 use Rattle.rules.specs.Site.{empty, zeroSettings, grown, isUnsound, mostHalves}
 use Rattle.rules.specs.declared.Settings.{Settings}
 use Rattle.rules.specs.declared.Table.{Table}
@@ -62,6 +63,10 @@ recordingCheck s xs =
 unfoldable pub settingsCheck : Settings → Taken
 settingsCheck s = cond (settingsGood s) Accepted (Refused (Setting (badSetting s)))
 
+-- and as the eighth a set of borders that is not known
+unfoldable pub setCheck : ℕ → Taken
+setCheck set = cond (knownSet set) Accepted (Refused (Setting 8))
+
 -- one thing where a check accepts, another where it refuses
 abbrev pub byCheck : {A : Type 0} → Taken → A → (Refusal → A) → A
 byCheck Accepted taken turned = taken
@@ -92,11 +97,11 @@ written s xs out =
 
 -- ---- making a fresh table: 1
 
--- a refused making hands back a table of zeros
-unfoldable pub freshened : Settings → Handed
-freshened s =
-    let check = settingsCheck s in
-    record { answer = check; table = byCheck check (empty s) (λ r. empty zeroSettings) }
+-- the seven settings first, then the set of borders; a refused making hands back a table of zeros, its set among them
+unfoldable pub freshened : Settings → ℕ → Handed
+freshened s set =
+    let check = andThen (settingsCheck s) (setCheck set) in
+    record { answer = check; table = byCheck check (empty s set) (λ r. empty zeroSettings 0) }
 
 -- ---- adding to a table: 9, 2 to 6 and 8
 

@@ -7,6 +7,7 @@ use lib.Ieee.{Float, binary64, div, ofInt}
 use Rattle.rules.specs.Recorder.{within, settingsGood}
 use Rattle.rules.specs.Halves.{full, below}
 use Rattle.rules.specs.Events.{retainedOf, makeUp}
+use Rattle.rules.specs.Borders.{knownSet}
 use Rattle.rules.specs.declared.Settings.{Settings}
 use Rattle.rules.specs.declared.Event.{Event}
 use Rattle.rules.specs.declared.Score.{Score}
@@ -53,6 +54,10 @@ reasonOf s e =
     (cond (not (isEvent s e)) 5
     (cond (not (isSag e)) 4 (unseenOf (e .seen))))
 
+-- as a host is told that hands over a set of borders too: No. 9 of document 02 has an unknown one be reason 6
+unfoldable pub reasonBy : Settings → ℕ → Event → ℕ
+reasonBy s set e = cond (knownSet set) (reasonOf s e) 6
+
 -- ---- the score
 
 -- the curve value at h half-cycles: 0 for h at most 2; else 500 while 5h is at most 2f; else 700 while h is at most f; else 800 while
@@ -85,6 +90,10 @@ scoreOf s e =
 -- a score is either two floats, or a reason and no floats
 unfoldable pub scoring : Settings → Event → Scoring
 scoring s e = cond (eqb (reasonOf s e) 0) (Scored (scoreOf s e)) (Unscored (reasonOf s e))
+
+-- as a host is told that hands over a set of borders too
+unfoldable pub scoringBy : Settings → ℕ → Event → Scoring
+scoringBy s set e = cond (knownSet set) (scoring s e) (Unscored 6)
 
 -- the reason's number of an answer: 0 where scored
 abbrev pub reasonNumber : Scoring → ℕ

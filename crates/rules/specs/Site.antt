@@ -1,58 +1,37 @@
--- The site table: rows, columns and cells; each count by its own definition; unsound tables.
+-- The site table: cells; each count by its own definition; unsound tables.
 use Prim.Native.Nat.{ℕ, suc, _+_, _-_, _*_}
 use mathlib.Core.Bool.{Bool, not, _&&_, _||_, cond}
 use mathlib.Core.List.{List, [], _∷_}
-use lib.ListN.{replicate}
+use lib.ListN.{replicate, getD}
 use lib.IntN.{ℤ}
-use lib.Dec.{leb, ltb, eqb}
-use Rattle.rules.specs.Bounded.{count, sum}
+use lib.Dec.{ltb, eqb}
+use Rattle.rules.specs.Bounded.{all, count, sum}
 use Rattle.rules.specs.Recorder.{settingsGood}
-use Rattle.rules.specs.Halves.{ofChannel, channels, squares, halfAt, halvesOf, known, full, atMost}
+use Rattle.rules.specs.Halves.{ofChannel, channels, squares, halfAt, halvesOf, known, full}
 use Rattle.rules.specs.Events.{inEvent, starts, endOf, startSeen, endSeen, extremeOf, shortOf, makeUp}
 use Rattle.rules.specs.EventList.{eventFrom}
-use Rattle.rules.specs.Scores.{reasonOf}
+use Rattle.rules.specs.Borders.{Borders, knownSet, bordersOf, cellsIn, cellAt}
+use Rattle.rules.specs.Scores.{reasonBy}
 use Rattle.rules.specs.declared.Settings.{Settings}
 use Rattle.rules.specs.declared.Half.{Half}
 use Rattle.rules.specs.declared.Kind.the-variants.{Sag, Interruption, Swell}
 use Rattle.rules.specs.declared.Event.{Event}
 use Rattle.rules.specs.declared.Table.{Table}
 
--- ---- cells, by two rising lists of borders
+-- ---- cells
 
--- the place among borders: how many are passed before the first that is not
-abbrev pub placeOf : (ℕ → Bool) → List ℕ → ℕ
-placeOf passed [] = 0
-placeOf passed (b ∷ bs) = cond (passed b) (suc (placeOf passed bs)) 0
-
--- rows 0 to 4: V at most 10, 40, 70, 85 percent, above
-abbrev pub rowBorders : List ℕ
-rowBorders = 10 ∷ 40 ∷ 70 ∷ 85 ∷ []
-
--- a voltage on a border goes to the deeper row: only one above the border passes it
-unfoldable pub rowOf : Settings → ℕ → ℕ
-rowOf s extreme = placeOf (λ p. not (atMost s p extreme)) rowBorders
-
--- columns 0 to 7, in fifths of a half-cycle: h below 2; 5h < f (0.1 s); h < f (0.5 s); h < 2f; h < 6f; h < 40f; h < 120f; the rest
-abbrev pub columnBorders : ℕ → List ℕ
-columnBorders f = 5 * 2 ∷ f ∷ 5 * f ∷ 5 * (2 * f) ∷ 5 * (6 * f) ∷ 5 * (40 * f) ∷ 5 * (120 * f) ∷ []
-
--- a duration on a border goes to the longer column: it passes the border
-unfoldable pub columnOf : ℕ → ℕ → ℕ
-columnOf f h = placeOf (λ b. leb b (5 * h)) (columnBorders f)
-
-abbrev pub columns : ℕ
-columns = 8
-
+-- how many a table has room for: as many as the largest set has
 abbrev pub cells : ℕ
 cells = 40
 
--- the cell of an extreme and a duration
-abbrev pub cellAt : Settings → ℕ → ℕ → ℕ
-cellAt s extreme h = columns * rowOf s extreme + columnOf (s .f) h
+-- not scored: one above the last cell of the set; 40 for an unknown set
+abbrev pub notScored : Settings → ℕ → ℕ
+notScored s set = cond (knownSet set) (cellsIn (bordersOf s set)) cells
 
--- the cell of an event; 40 where it is not scored
-unfoldable pub cellOf : Settings → Event → ℕ
-cellOf s e = cond (eqb (reasonOf s e) 0) (cellAt s (e .extreme) (e .end - e .start)) cells
+-- the cell of an event by a set of borders
+unfoldable pub cellOf : Settings → ℕ → Event → ℕ
+cellOf s set e =
+    cond (eqb (reasonBy s set e) 0) (cellAt s (bordersOf s set) (e .extreme) (e .end - e .start)) (notScored s set)
 
 -- ---- half-cycles: each class its own test
 
@@ -79,10 +58,10 @@ isPlaced s h n k = starts s h Sag k && (startSeen h k && endSeen h (endOf s h n 
 unfoldable pub isUnplaced : Settings → (ℕ → Half) → ℕ → ℕ → Bool
 isUnplaced s h n k = starts s h Sag k && not (startSeen h k && endSeen h (endOf s h n Sag k))
 
--- the cell of the sag that starts at k
-unfoldable pub sagCell : Settings → (ℕ → Half) → ℕ → ℕ → ℕ
-sagCell s h n k =
-    let end = endOf s h n Sag k in cellAt s (extremeOf h Sag k end) (end - k)
+-- the cell of the sag that starts at k, by any borders
+unfoldable pub sagCell : Settings → Borders → (ℕ → Half) → ℕ → ℕ → ℕ
+sagCell s b h n k =
+    let end = endOf s h n Sag k in cellAt s b (extremeOf h Sag k end) (end - k)
 
 -- ---- shortfall
 
@@ -107,18 +86,21 @@ abbrev pub cellsFrom : (ℕ → ℕ) → List ℕ → ℕ → List ℕ
 cellsFrom g [] i = []
 cellsFrom g (x ∷ xs) i = (x + g i) ∷ cellsFrom g xs (suc i)
 
+-- it keeps its settings and its set of borders, and each sag goes in its cell by that set
 unfoldable pub grown : Table → List ℤ → Table
 grown t xs =
     let s = t .settings in
+    let b = bordersOf s (t .set) in
     let h = halfAt s xs in
     let n = halvesOf s xs in
     record {
       settings = s;
+      set = t .set;
       total = t .total + n;
       healthy = t .healthy + count (isHealthy s h) n;
       disturbed = t .disturbed + count (isDisturbed s h) n;
       unknown = t .unknown + count (isUnknown s h) n;
-      cells = cellsFrom (λ i. count (λ k. isPlaced s h n k && eqb (sagCell s h n k) i) n) (t .cells) 0;
+      cells = cellsFrom (λ i. count (λ k. isPlaced s h n k && eqb (sagCell s b h n k) i) n) (t .cells) 0;
       unplaced = t .unplaced + count (isUnplaced s h n) n;
       sags = t .sags + count (starts s h Sag) n;
       interruptions = t .interruptions + count (starts s h Interruption) n;
@@ -129,10 +111,11 @@ grown t xs =
 
 -- ---- fresh, zeros, unsound
 
-abbrev pub empty : Settings → Table
-empty s =
+abbrev pub empty : Settings → ℕ → Table
+empty s set =
     record {
       settings = s;
+      set = set;
       total = 0;
       healthy = 0;
       disturbed = 0;
@@ -157,14 +140,19 @@ total (x ∷ xs) = x + total xs
 abbrev pub mostHalves : ℕ
 mostHalves = 4000000
 
--- settings bad; total above 4,000,000; the three half-cycle counts don't sum to it; cells and unplaced don't sum to sags; any
--- event kind above total; shortfall above 3 x N x R x R x total; the shortfalls of the channels don't make it up. No. 7 of document
--- 02 has taken one condition out, and No. 5 has put the last one in
+-- cells that the borders don't use are 0
+abbrev pub unusedZero : Borders → List ℕ → Bool
+unusedZero b cs = all (λ i. ltb i (cellsIn b) || eqb (getD cs i 0) 0) cells
+
+-- settings bad; set of borders unknown; total above 4,000,000; the three half-cycle counts don't sum to it; cells and unplaced don't
+-- sum to sags; a cell that the set does not use not 0; any event kind above total; shortfall above 3 x N x R x R x total; the shortfalls of
+-- the channels don't make it up. No. 7 of document 02 has taken one condition out, No. 5 has put the last one in, and No. 9 those on
+-- the set and its unused cells
 unfoldable pub isUnsound : Table → Bool
 isUnsound t =
-    not (settingsGood (t .settings)) || ltb mostHalves (t .total)
+    not (settingsGood (t .settings)) || not (knownSet (t .set)) || ltb mostHalves (t .total)
     || not (eqb (t .healthy + t .disturbed + t .unknown) (t .total))
-    || not (eqb (total (t .cells) + t .unplaced) (t .sags))
+    || not (eqb (total (t .cells) + t .unplaced) (t .sags)) || not (unusedZero (bordersOf (t .settings) (t .set)) (t .cells))
     || (ltb (t .total) (t .sags) || ltb (t .total) (t .interruptions) || ltb (t .total) (t .swells))
     || ltb (3 * full (t .settings) * t .total) (t .shortfall)
     || not (makeUp (t .parts) (t .shortfall))

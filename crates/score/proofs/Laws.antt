@@ -1,4 +1,4 @@
--- Whole numbers as floats, milliseconds without a product that wraps, and places among borders. Assumes nothing.
+-- Whole numbers as floats, and milliseconds without a product that wraps. Assumes nothing.
 use Prim.Native.Nat.{ℕ, suc, _+_, _*_, _/_, _%_, _^_, _≤_, _<_}
 use mathlib.Core.Path.{_≡_, refl, sym, ap, _∙_}
 use mathlib.Core.Bool.{Bool, true, false, not, cond}
@@ -67,49 +67,3 @@ millis-split a d hd =
     let e : 1000 * a ≡ a / d * 1000 * d + a % d * 1000 =
     omega (arith, div-add-mod' a d, mul-assoc (a / d) 1000 d, mul-assoc (a / d) d 1000, ap (λ (x : ℕ). a / d * x) (mul-comm 1000 d)) in
     sym (ap (λ (x : ℕ). x / d) e ∙ mul-add-div-right hd (a / d * 1000) (a % d * 1000))
-
--- ---- places
-
--- the place among the borders from i on, a border at a time
-module _ (passed : ℕ → Bool) (bs : List ℕ) (i : ℕ) where
-  pub place-goes : i < length bs → passed (getD bs i 0) ≡ true → placeOf passed (drop i bs) ≡ suc (placeOf passed (drop (i + 1) bs))
-  place-goes h e = rw (drop-cons bs i 0 h, e, add-one)
-
-  pub place-here : i < length bs → passed (getD bs i 0) ≡ false → placeOf passed (drop i bs) ≡ 0
-  place-here h e = rw (drop-cons bs i 0 h, e)
-
-  pub place-ends : length bs ≤ i → placeOf passed (drop i bs) ≡ 0
-  place-ends h = rw (drop-of-length-le bs h)
-
--- above a border is not at most it; on a border or past it is below the next number
-above-is : (b x : ℕ) → not (leb x b) ≡ ltb b x
-above-is b x = either (leb x b) refl
-  where
-    either : (t : Bool) → leb x b ≡ t → not t ≡ ltb b x
-    either true h = sym (le-ltb b x (leb-true x b h))
-    either false h = sym (lt-ltb b x (leb-false x b h))
-
-reached-is : (b x : ℕ) → leb b x ≡ ltb b (x + 1)
-reached-is b x = rw add-one (sym (leb·suc-suc b x))
-
--- the same place by another test of other borders
-place-same : (p q : ℕ → Bool) (f : ℕ → ℕ) → ((b : ℕ) → p b ≡ q (f b)) → (bs : List ℕ) → placeOf p bs ≡ placeOf q (map f bs)
-place-same p q f h [] = refl
-place-same p q f h (b ∷ bs) = rw (h b, place-same p q f h bs)
-
-pub row-by-marks : (s : Settings) (S : ℕ)
-    → placeOf (λ b. ltb b (10000 * S)) (100 * full s ∷ 1600 * full s ∷ 4900 * full s ∷ 7225 * full s ∷ []) ≡ rowOf s S
-unfolding rowOf
-row-by-marks s S =
-    sym
-    (place-same (λ p. not (atMost s p S)) (λ b. ltb b (10000 * S)) (λ p. p * p * full s) (λ p. above-is (p * p * full s) (10000 * S)) rowBorders)
-
-pub column-by-fifths : (f h : ℕ)
-    → placeOf (λ b. ltb b (5 * h + 1)) (10 ∷ f ∷ 5 * f ∷ 10 * f ∷ 30 * f ∷ 200 * f ∷ 600 * f ∷ []) ≡ columnOf f h
-unfolding columnOf
-column-by-fifths f h =
-    let a : 10 * f ≡ 5 * (2 * f) = omega arith in
-    let b : 30 * f ≡ 5 * (6 * f) = omega arith in
-    let c : 200 * f ≡ 5 * (40 * f) = omega arith in
-    let d : 600 * f ≡ 5 * (120 * f) = omega arith in
-    rw (a, b, c, d) (sym (place-same (λ b. leb b (5 * h)) (λ b. ltb b (5 * h + 1)) (λ b. b) (λ b. reached-is b (5 * h)) (columnBorders f)))

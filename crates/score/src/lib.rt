@@ -1,4 +1,8 @@
 // The score of one event: its retained value, the reason why it has no score, severity and energy, and its cell.
+use borders::cell_at;
+use borders::known_set;
+use borders::not_scored;
+use checks::full_of;
 use numbers::adds_up;
 use rules::Event;
 use rules::Score;
@@ -7,13 +11,11 @@ use rules::Settings;
 ghost use mathlib.Core.Path.{_≡_};
 ghost use mathlib.Core.Bool.{true};
 ghost use Prim.Native.Nat.{_+_, _*_, _≤_, _<_};
-ghost use lib.Dec.{ltb};
 ghost use Rattle.rules.specs.Recorder.{settingsGood};
-ghost use Rattle.rules.specs.Halves.{full};
 ghost use Rattle.rules.specs.Events.{retainedOf};
-ghost use Rattle.rules.specs.Scores.{inBounds, sagGood, isEvent, reasonOf, curveOf, severityOf, energyOf, scoreOf, scoring};
+ghost use Rattle.rules.specs.Scores.{inBounds, sagGood, isEvent, reasonOf, reasonBy, curveOf, severityOf, energyOf, scoreOf, scoringBy};
 ghost use Rattle.rules.specs.Demands.{IsDown, halfOrMore};
-ghost use Rattle.rules.specs.Site.{placeOf, rowOf, columnOf, cellAt, cellOf};
+ghost use Rattle.rules.specs.Site.{cellOf};
 ghost use Rattle.score.specs.Newton.{NotBelow, First, Nearer};
 
 // Whether every setting is in its range.
@@ -21,14 +23,6 @@ fn settings_good(s: Settings) -> bool
     ensures { λ r. ⌜ r ≡ settingsGood s ⌝ }
 {
     checks::first_bad_setting(s) == 0
-}
-
-// N x R x R.
-pub fn full_of(s: Settings) -> u64
-    requires { ⌜ settingsGood s ≡ true ⌝ }
-    ensures { λ r. ⌜ r ≡ full s ⌝ }
-{
-    s.n * s.r * s.r
 }
 
 // A first guess at the root of q: one of Newton's steps from the power of two with half of q's digits, so that its division is a shift.
@@ -116,8 +110,8 @@ fn is_event(s: Settings, e: Event) -> bool
     kept & ((e.shortfall == 0) & (e.class == 0))
 }
 
-// Why the event has no score: 0 where it has one. Of a sag it is what is unseen, 1 for the start plus 2 for the end.
-pub fn reason(s: Settings, e: Event) -> u64
+// Why the event has no score, whatever the borders: 0 where it has one. Of a sag it is what is unseen, 1 for the start plus 2 for the end.
+fn reason_of(s: Settings, e: Event) -> u64
     ensures { λ r. ⌜ r ≡ reasonOf s e ⌝ }
 {
     let sag = e.kind == 1;
@@ -132,6 +126,16 @@ pub fn reason(s: Settings, e: Event) -> u64
         return 4;
     }
     3 - seen
+}
+
+// Why the event has no score under a set of borders: an unknown one is reason 6.
+pub fn reason(s: Settings, set: u64, e: Event) -> u64
+    ensures { λ r. ⌜ r ≡ reasonBy s set e ⌝ }
+{
+    if !known_set(set) {
+        return 6;
+    }
+    reason_of(s, e)
 }
 
 // The curve value at h half-cycles.
@@ -184,61 +188,23 @@ fn scored(s: Settings, e: Event) -> Score
     Score { severity, energy }
 }
 
-// The score of an event, or the reason why there is none.
-pub fn score_of(s: Settings, e: Event) -> Scoring
-    ensures { λ r. ⌜ r ≡ scoring s e ⌝ }
+// The score of an event, or the reason why there is none, under a set of borders.
+pub fn score_of(s: Settings, set: u64, e: Event) -> Scoring
+    ensures { λ r. ⌜ r ≡ scoringBy s set e ⌝ }
 {
-    let why = reason(s, e);
+    let why = reason(s, set, e);
     if why == 0 {
         return Scoring::Scored(scored(s, e));
     }
     Scoring::Unscored(why)
 }
 
-// How many borders x is above, before the first that it is not above.
-fn place(borders: &[u64], x: u64) -> u64
-    ensures { λ r. ⌜ r ≡ placeOf (λ b. ltb b x) (now (borders .entry)) ⌝ }
+// The cell of an event by a set of borders: one above the last where it is not scored.
+pub fn cell(s: Settings, set: u64, e: Event) -> u64
+    ensures { λ r. ⌜ r ≡ cellOf s set e ⌝ }
 {
-    let mut i = 0;
-    while i < borders.len() && borders[i] < x {
-        i += 1;
+    if reason(s, set, e) != 0 {
+        return not_scored(set);
     }
-    i as u64
-}
-
-// The row of an extreme, by 10, 40, 70 and 85 percent squared: on a border it is not above it.
-fn row(s: Settings, extreme: u64) -> u64
-    requires { ⌜ (settingsGood s ≡ true) × (extreme ≤ s .n * 10000000000) ⌝ }
-    ensures { λ r. ⌜ r ≡ rowOf s extreme ⌝ }
-{
-    let m = full_of(s);
-    let borders = [100 * m, 1600 * m, 4900 * m, 7225 * m];
-    place(&borders, 10000 * extreme)
-}
-
-// The column of h half-cycles, by borders in fifths of one: on a border it has passed it.
-fn column(f: u64, h: u64) -> u64
-    requires { ⌜ (f ≤ 60) × (h ≤ 100000) ⌝ }
-    ensures { λ r. ⌜ r ≡ columnOf f h ⌝ }
-{
-    let borders = [10, f, 5 * f, 10 * f, 30 * f, 200 * f, 600 * f];
-    place(&borders, 5 * h + 1)
-}
-
-// The cell of an extreme and a duration of h half-cycles.
-pub fn cell_at(s: Settings, extreme: u64, h: u64) -> u64
-    requires { ⌜ (settingsGood s ≡ true) × (extreme ≤ s .n * 10000000000) × (h ≤ 100000) ⌝ }
-    ensures { λ r. ⌜ r ≡ cellAt s extreme h ⌝ }
-{
-    8 * row(s, extreme) + column(s.f, h)
-}
-
-// The cell of an event: 40 where it is not scored.
-pub fn cell(s: Settings, e: Event) -> u64
-    ensures { λ r. ⌜ r ≡ cellOf s e ⌝ }
-{
-    if reason(s, e) != 0 {
-        return 40;
-    }
-    cell_at(s, e.extreme, e.end - e.start)
+    cell_at(s, set, e.extreme, e.end - e.start)
 }

@@ -15,6 +15,7 @@ unfoldable pub merged : Table → Table → Table
 merged t u =
     record {
       settings = t .settings;
+      set = t .set;
       total = t .total + u .total;
       healthy = t .healthy + u .healthy;
       disturbed = t .disturbed + u .disturbed;

@@ -1,17 +1,22 @@
 // The site table: fresh for its settings, and grown by a recording.
 ghost use mathlib.Core.Path.{_≡_};
-ghost use mathlib.Core.Bool.{false};
+ghost use mathlib.Core.Bool.{false, _||_};
 ghost use Prim.Native.Nat.{ℕ, _+_, _≤_, min as lesser};
-ghost use lib.Dec.{eqb};
+ghost use lib.Dec.{ltb, eqb};
 ghost use lib.ListN.{getD};
+ghost use Rattle.rules.specs.Bounded.{all};
 ghost use Rattle.rules.specs.Site.{total, cellsFrom, zeroSettings, isUnsound};
-ghost use Rattle.rules.specs.Refusals.{freshened, added};
+ghost use Rattle.rules.specs.Refusals.{settingsCheck, setCheck, andThen, freshened, added};
 ghost use Rattle.rules.specs.declared.Taken.the-variants.{Accepted};
 ghost use Rattle.checks.specs.Flags.{shapeCheck};
 ghost use Rattle.site.specs.Merging.{Mergeable, merged, Adding, addedTo};
+use borders::check_set;
+use borders::known_set;
+use borders::not_scored;
 use checks::check_settings;
 use checks::check_shape;
 use checks::first_bad_setting;
+use checks::full_of;
 use numbers::add_each;
 use numbers::add_sums;
 use numbers::adds_up;
@@ -21,7 +26,6 @@ use rules::Settings;
 use rules::Site;
 use rules::Table;
 use rules::Taken;
-use score::full_of;
 use survey::empty_table;
 use survey::table_of;
 
@@ -51,6 +55,19 @@ fn sags_add_up(cells: [u64; 40], unplaced: u64, sags: u64) -> bool
     cells_sum(cells, sags) + unplaced == sags
 }
 
+// Whether the cells from `used` on are all 0.
+fn unused_zero(cells: [u64; 40], used: u64) -> bool
+    ensures { λ r. ⌜ r ≡ all (λ i. ltb i used || eqb (getD cells i 0) 0) 40 ⌝ }
+{
+    let mut zero = true;
+    let mut i: usize = 0;
+    while i < 40 {
+        zero = zero & (((i as u64) < used) | (cells[i] == 0));
+        i += 1;
+    }
+    zero
+}
+
 // Refusal 9, for any numbers: each is bounded before it is added to another.
 fn is_unsound(t: Table) -> bool
     ensures { λ r. ⌜ r ≡ isUnsound t ⌝ }
@@ -58,6 +75,9 @@ fn is_unsound(t: Table) -> bool
     let s = t.settings;
     let cells = t.cells;
     if first_bad_setting(s) != 0 {
+        return true;
+    }
+    if !known_set(t.set) {
         return true;
     }
     if 4000000 < t.total {
@@ -70,6 +90,9 @@ fn is_unsound(t: Table) -> bool
         return true;
     }
     if !sags_add_up(cells, t.unplaced, t.sags) {
+        return true;
+    }
+    if !unused_zero(cells, not_scored(t.set)) {
         return true;
     }
     let parts = t.parts;
@@ -100,6 +123,7 @@ fn merge(t: Table, u: Table) -> Table
     let parts = add_sums(t.parts, u.parts);
     Table {
         settings,
+        set: t.set,
         total: t.total + u.total,
         healthy: t.healthy + u.healthy,
         disturbed: t.disturbed + u.disturbed,
@@ -128,19 +152,30 @@ fn no_settings() -> Settings
     }
 }
 
-// A fresh table for any settings. Where they are refused the table is all zeros, which is itself unsound.
-pub fn fresh(s: Settings) -> Site
-    ensures { λ r. ⌜ r ≡ freshened s ⌝ }
+// Refusal 1: of the seven settings, and then of the set of borders.
+fn check_making(s: Settings, set: u64) -> Taken
+    ensures { λ r. ⌜ r ≡ andThen (settingsCheck s) (setCheck set) ⌝ }
 {
     let checked = check_settings(s);
     match checked {
+        Taken::Accepted => check_set(set),
+        Taken::Refused(r) => Taken::Refused(r),
+    }
+}
+
+// A fresh table for any settings and any set of borders. Where they are refused the table is all zeros, which is itself unsound.
+pub fn fresh(s: Settings, set: u64) -> Site
+    ensures { λ r. ⌜ r ≡ freshened s set ⌝ }
+{
+    let checked = check_making(s, set);
+    match checked {
         Taken::Accepted => Site {
             answer: Taken::Accepted,
-            table: empty_table(s),
+            table: empty_table(s, set),
         },
         Taken::Refused(r) => Site {
             answer: Taken::Refused(r),
-            table: empty_table(no_settings()),
+            table: empty_table(no_settings(), 0),
         },
     }
 }
@@ -168,7 +203,7 @@ fn add_shaped(t: Table, samples: &[i32]) -> Site
     requires { ⌜ (isUnsound t ≡ false) × (shapeCheck (t .settings) (now samples) ≡ Accepted) ⌝ }
     ensures { λ r. ⌜ r ≡ added t (now (samples .entry)) ⌝ }
 {
-    let tabled = table_of(t.settings, samples);
+    let tabled = table_of(t.settings, t.set, samples);
     let answer = tabled.answer;
     match answer {
         Taken::Accepted => add_table(t, tabled.table),

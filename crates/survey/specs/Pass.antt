@@ -1,10 +1,12 @@
 -- The pass over a recording that a site table takes, as the code runs it; proofs/ ties it to the rules.
 use Prim.Native.Nat.{ℕ, suc, _*_, _≤_, _<_}
 use mathlib.Core.Path.{_≡_}
+use mathlib.Core.Bool.{true}
 use mathlib.Core.List.{List}
 use lib.IntN.{ℤ}
 use Rattle.rules.specs.Halves.{begin, halfAt, halvesOf}
 use Rattle.rules.specs.Events.{three}
+use Rattle.rules.specs.Borders.{knownSet, bordersOf}
 use Rattle.rules.specs.Site.{empty, grown}
 use Rattle.rules.specs.Refusals.{recordingCheck, byCheck}
 use Rattle.rules.specs.declared.Settings.{Settings}
@@ -24,20 +26,21 @@ use Rattle.survey.specs.declared.Surveyed.{Surveyed}
 -- ---- the quiet half-cycles and the next
 
 -- what surveying on from half-cycle `from` asks: the state before it, and that all samples up to its first step are in range
-pub record Surveying (s : Settings) (xs : List ℤ) (m : Thresholds) (halves : ℕ) (p : Survey) (first : Half) (from : ℕ) (cs : List ℕ) : Type 0 where
+pub record Surveying (s : Settings) (set : ℕ) (xs : List ℤ) (m : Thresholds) (halves : ℕ) (p : Survey) (first : Half) (from : ℕ) (cs : List ℕ) : Type 0 where
   pub reading : Reading s xs m from halves first
+  pub known-set : knownSet set ≡ true
   pub halves-are : halves ≡ halvesOf s xs
   pub more : from < halves
   pub state : p ≡ surveyAt s (halfAt s (asRead xs)) (halvesOf s (asRead xs)) from
-  pub cells-are : cs ≡ cellsAt s (halfAt s (asRead xs)) (halvesOf s (asRead xs)) from
+  pub cells-are : cs ≡ cellsAt s (bordersOf s set) (halfAt s (asRead xs)) (halvesOf s (asRead xs)) from
   pub in-range : RangedBelow xs (3 * begin s (suc from))
 
 -- what it finds, of the recording as it is read: all samples before step k are in range, that step or not
-pub record SurveyedTo (s : Settings) (xs : List ℤ) (from : ℕ) (r : Surveyed) (cs : List ℕ) : Type 0 where
+pub record SurveyedTo (s : Settings) (set : ℕ) (xs : List ℤ) (from : ℕ) (r : Surveyed) (cs : List ℕ) : Type 0 where
   pub more : from < r .k
   pub high : r .k ≤ halvesOf s xs
   pub state : r .survey ≡ surveyAt s (halfAt s (asRead xs)) (halvesOf s (asRead xs)) (r .k)
-  pub cells-are : cs ≡ cellsAt s (halfAt s (asRead xs)) (halvesOf s (asRead xs)) (r .k)
+  pub cells-are : cs ≡ cellsAt s (bordersOf s set) (halfAt s (asRead xs)) (halvesOf s (asRead xs)) (r .k)
   pub step : r .step ≡ stepAt s xs (r .k)
   pub below : RangedBelow xs (3 * begin s (r .k))
   pub good-is : r .good ≡ allInRange (stepRun s xs (r .k))
@@ -45,17 +48,18 @@ pub record SurveyedTo (s : Settings) (xs : List ℤ) (from : ℕ) (r : Surveyed)
 -- ---- the whole recording
 
 -- a refusal, beside an empty table
-abbrev pub turnedAway : Settings → Refusal → Handed
-turnedAway s r = record { answer = Refused r; table = empty s }
+abbrev pub turnedAway : Settings → ℕ → Refusal → Handed
+turnedAway s set r = record { answer = Refused r; table = empty s set }
 
 -- the table of the numbers counted, beside "accepted"
-abbrev pub takenWith : Settings → ℕ → Survey → Landed → List ℕ → Handed
-takenWith s halves p d cs =
+abbrev pub takenWith : Settings → (set halves : ℕ) → Survey → Landed → List ℕ → Handed
+takenWith s set halves p d cs =
     record {
       answer = Accepted;
       table =
           record {
             settings = s;
+            set = set;
             total = halves;
             healthy = p .classes .healthy;
             disturbed = p .classes .disturbed;
@@ -71,7 +75,7 @@ takenWith s halves p d cs =
     }
 
 -- what the checks of the recording answer, and its table where they accept it
-unfoldable pub tabled : Settings → List ℤ → Handed
-tabled s xs =
+unfoldable pub tabled : Settings → ℕ → List ℤ → Handed
+tabled s set xs =
     let check = recordingCheck s xs in
-    record { answer = check; table = byCheck check (grown (empty s) xs) (λ r. empty s) }
+    record { answer = check; table = byCheck check (grown (empty s set) xs) (λ r. empty s set) }

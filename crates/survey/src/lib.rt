@@ -3,6 +3,7 @@ ghost use mathlib.Core.Path.{_≡_};
 ghost use mathlib.Core.Bool.{true, cond};
 ghost use Prim.Native.Nat.{_<_};
 ghost use Rattle.rules.specs.Recorder.{settingsGood};
+ghost use Rattle.rules.specs.Borders.{knownSet};
 ghost use Rattle.rules.specs.Site.{empty};
 ghost use Rattle.rules.specs.declared.Taken.the-variants.{Accepted};
 ghost use Rattle.checks.specs.Flags.{shapeCheck};
@@ -69,6 +70,7 @@ fn calm_from(
 // Surveys on from half-cycle `from`: the quiet ones are passed over, and the machine takes the next.
 fn survey_next(
     s: Settings,
+    set: u64,
     m: Thresholds,
     halves: u64,
     samples: &[i32],
@@ -77,8 +79,8 @@ fn survey_next(
     from: u64,
     cells: &mut [u64; 40],
 ) -> Surveyed
-    requires { ⌜ Surveying s (now samples) m halves p first from (now cells) ⌝ }
-    ensures { λ r. ⌜ SurveyedTo s (now (samples .entry)) from r (now (cells .exit)) ⌝ }
+    requires { ⌜ Surveying s set (now samples) m halves p first from (now cells) ⌝ }
+    ensures { λ r. ⌜ SurveyedTo s set (now (samples .entry)) from r (now (cells .exit)) ⌝ }
 {
     let calm = calm_from(s, m, halves, samples, p.track, first, from);
     let step = calm.step;
@@ -94,19 +96,20 @@ fn survey_next(
         };
     }
     Surveyed {
-        survey: survey_turn(s, m, joined(step, next), survey, k, cells),
+        survey: survey_turn(s, set, m, joined(step, next), survey, k, cells),
         step: next,
         k: k + 1,
         good: step_in_range(s, samples, k + 1, next),
     }
 }
 
-// A table of the settings with every count 0.
-pub fn empty_table(s: Settings) -> Table
-    ensures { λ r. ⌜ r ≡ empty s ⌝ }
+// A table of the settings and the set of borders with every count 0.
+pub fn empty_table(s: Settings, set: u64) -> Table
+    ensures { λ r. ⌜ r ≡ empty s set ⌝ }
 {
     Table {
         settings: s,
+        set,
         total: 0,
         healthy: 0,
         disturbed: 0,
@@ -122,19 +125,19 @@ pub fn empty_table(s: Settings) -> Table
 }
 
 // A refusal, beside an empty table.
-fn turned_away(s: Settings, refusal: Refusal) -> Site
-    ensures { λ r. ⌜ r ≡ turnedAway s refusal ⌝ }
+fn turned_away(s: Settings, set: u64, refusal: Refusal) -> Site
+    ensures { λ r. ⌜ r ≡ turnedAway s set refusal ⌝ }
 {
     Site {
         answer: Taken::Refused(refusal),
-        table: empty_table(s),
+        table: empty_table(s, set),
     }
 }
 
 // The table of the numbers counted, beside "accepted".
-fn taken(s: Settings, halves: u64, p: Survey, landed: Landed, cells: [u64; 40]) -> Site
+fn taken(s: Settings, set: u64, halves: u64, p: Survey, landed: Landed, cells: [u64; 40]) -> Site
     requires { ⌜ Light (landed .parts) ⌝ }
-    ensures { λ r. ⌜ r ≡ takenWith s halves p landed cells ⌝ }
+    ensures { λ r. ⌜ r ≡ takenWith s set halves p landed cells ⌝ }
 {
     let classes = p.classes;
     let starts = p.starts;
@@ -144,6 +147,7 @@ fn taken(s: Settings, halves: u64, p: Survey, landed: Landed, cells: [u64; 40]) 
         answer: Taken::Accepted,
         table: Table {
             settings: s,
+            set,
             total: halves,
             healthy: classes.healthy,
             disturbed: classes.disturbed,
@@ -159,11 +163,11 @@ fn taken(s: Settings, halves: u64, p: Survey, landed: Landed, cells: [u64; 40]) 
     }
 }
 
-// The table of one recording of good length, or refusal 6, which is told as soon as a bad sample is met. Half-cycle H, which does not
+// The table of one recording of good length by a set of borders, or refusal 6, which is told as soon as a bad sample is met. Half-cycle H, which does not
 // exist, ends a sag that is still going on.
-pub fn table_of(s: Settings, samples: &[i32]) -> Site
-    requires { ⌜ (settingsGood s ≡ true) × (shapeCheck s (now samples) ≡ Accepted) ⌝ }
-    ensures { λ r. ⌜ r ≡ tabled s (now (samples .entry)) ⌝ }
+pub fn table_of(s: Settings, set: u64, samples: &[i32]) -> Site
+    requires { ⌜ (settingsGood s ≡ true) × (knownSet set ≡ true) × (shapeCheck s (now samples) ≡ Accepted) ⌝ }
+    ensures { λ r. ⌜ r ≡ tabled s set (now (samples .entry)) ⌝ }
 {
     let halves = count_halves(s, samples);
     let m = thresholds_of(s);
@@ -171,13 +175,13 @@ pub fn table_of(s: Settings, samples: &[i32]) -> Site
     let mut p = start_survey();
     let mut step = step_at(s, samples, 0);
     if !step_in_range(s, samples, 0, step) {
-        return turned_away(s, bad_sample(s, samples, 0));
+        return turned_away(s, set, bad_sample(s, samples, 0));
     }
     let mut k: u64 = 0;
     while k < halves {
-        let on = survey_next(s, m, halves, samples, p, step, k, &mut cells);
+        let on = survey_next(s, set, m, halves, samples, p, step, k, &mut cells);
         if !on.good {
-            return turned_away(s, bad_sample(s, samples, on.k));
+            return turned_away(s, set, bad_sample(s, samples, on.k));
         }
         p = on.survey;
         step = on.step;
@@ -185,6 +189,15 @@ pub fn table_of(s: Settings, samples: &[i32]) -> Site
     }
     let track = p.track;
     let open = track.sag;
-    let landed = land(s, p.landed, open.inside, open, halves, false, &mut cells);
-    taken(s, halves, p, landed, cells)
+    let landed = land(
+        s,
+        set,
+        p.landed,
+        open.inside,
+        open,
+        halves,
+        false,
+        &mut cells,
+    );
+    taken(s, set, halves, p, landed, cells)
 }

@@ -1,8 +1,8 @@
--- `score::full_of` meets its contract: the ranges of N and R keep N x R x R within 64 bits.
+-- `checks::full_of` meets its contract: the ranges of N and R keep N x R x R within 64 bits.
 use native.Mathlib.Omega.{arith}
 use Rattle.rules.proofs.Ranges.{good, nr-high, full-high, full-is}
-use Rattle.score.proofs.full_of.Statement.{statement}
-use Rattle.score.proofs.full_of.Tie as tie
+use Rattle.checks.proofs.full_of.Statement.{statement}
+use Rattle.checks.proofs.full_of.Tie as tie
 
 mul-result : tie.Need-mul-result
 mul-result c = omega (arith, nr-high _ (good _ (c .before .pre)))

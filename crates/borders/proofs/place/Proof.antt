@@ -1,4 +1,4 @@
--- `score::place` meets its contract: what is passed and the place among the borders that are left are the place among all.
+-- `borders::place` meets its contract: what is passed and the place among the borders that are left are the place among all.
 use Prim.Native.Nat.{ℕ, _+_, _-_, _≤_}
 use mathlib.Core.Path.{_≡_}
 use mathlib.Core.List.{List}
@@ -6,10 +6,10 @@ use native.Mathlib.Omega.{arith}
 use borrow.Author.Needs.{needs}
 use lib.Dec.{ltb}
 use lib.ListN.{length, drop}
-use Rattle.rules.specs.Site.{placeOf}
-use Rattle.score.proofs.Laws.{place-goes, place-here, place-ends}
-use Rattle.score.proofs.place.Statement.{statement}
-use Rattle.score.proofs.place.Tie as tie
+use Rattle.rules.specs.Borders.{placeOf}
+use Rattle.borders.proofs.Laws.{place-goes, place-here, place-ends}
+use Rattle.borders.proofs.place.Statement.{statement}
+use Rattle.borders.proofs.place.Tie as tie
 
 abbrev place : ℕ → List ℕ → ℕ
 place x bs = placeOf (λ b. ltb b x) bs
