@@ -4,6 +4,7 @@
 //! Nothing here is clever: each window is summed anew, "in a sag at k" tries every j, the events are the longest runs of
 //! such half-cycles, sorted. `plain` is the same in linear time, as one would ordinarily write it, and `swift` is written
 //! for speed: two yardsticks. `compare` hunts for differences from the proved library.
+pub mod borders;
 pub mod cases;
 pub mod compare;
 pub mod kinds;

@@ -49,7 +49,8 @@ fn count(table: &mut Table, s: &Settings, events: &[Event]) {
                 table[at::SAGS] += 1;
                 table[at::SHORTFALL] += shortfall;
                 table[at::PARTS..].iter_mut().zip(parts).for_each(|(sum, part)| *sum += part);
-                let placed = if seen == 3 { at::CELLS + score::cell(s, event) as usize } else { at::UNPLACED };
+                let placed =
+                    if seen == 3 { at::CELLS + score::cell(s, table[at::SET], event) as usize } else { at::UNPLACED };
                 table[placed] += 1;
             }
             INTERRUPTION => table[at::INTERRUPTIONS] += 1,

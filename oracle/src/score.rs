@@ -1,10 +1,8 @@
 //! One event: its retained value, the reason why it has no score, its two floats and its cell.
+use crate::borders::{self, MOST};
 use crate::recording::LONGEST;
-use crate::settings::{above, below, first_bad, reference};
+use crate::settings::{below, first_bad, reference};
 use crate::{Event, Score, Settings};
-
-/// The cell of an event that has none.
-pub const NO_CELL: u64 = 40;
 
 /// The whole number nearest to 1000 V / R, halves upward: the largest r with (2 r - 1)^2 x N x R x R at most 4,000,000 x S,
 /// and 0 where no r from 1 on has that.
@@ -26,9 +24,9 @@ pub fn first_sum(s: &Settings, retained: u64) -> u64 {
     sum_at(s, (2 * retained).saturating_sub(1))
 }
 
-/// Why the event has no score: 0 where it has one.
-pub fn reason(s: &Settings, e: &Event) -> u64 {
-    if first_bad(s).is_some() {
+/// Why the event has no score under the settings and the set of borders: 0 where it has one.
+pub fn reason(s: &Settings, set: u64, e: &Event) -> u64 {
+    if first_bad(s).is_some() || borders::of(set).is_none() {
         return 6;
     }
     if !is_event(s, e) {
@@ -87,8 +85,8 @@ pub fn beside_the_steps(f: u64) -> [u64; 8] {
 }
 
 /// The two floats of an event, or the reason why it has none.
-pub fn score(s: &Settings, e: &Event) -> Result<Score, u64> {
-    match reason(s, e) {
+pub fn score(s: &Settings, set: u64, e: &Event) -> Result<Score, u64> {
+    match reason(s, set, e) {
         0 => Ok(floats(s, e)),
         why => Err(why),
     }
@@ -106,23 +104,12 @@ fn milliseconds(s: &Settings, shortfall: u64) -> u64 {
     (1000 * u128::from(shortfall) / (reference(s) * 2 * u128::from(s.f))) as u64
 }
 
-/// The cell of an event: 40 where it has no score.
-pub fn cell(s: &Settings, e: &Event) -> u64 {
+/// The cell of an event by the set of borders: one above the last of the set where it has no score, 40 where the set is unknown.
+pub fn cell(s: &Settings, set: u64, e: &Event) -> u64 {
     let [_, start, end, _, extreme, ..] = *e;
-    if reason(s, e) == 0 {
-        8 * row(s, extreme) + column(s, end - start)
-    } else {
-        NO_CELL
+    match borders::of(set) {
+        None => MOST,
+        Some(borders) if reason(s, set, e) == 0 => borders.cell(s, extreme, end - start),
+        Some(borders) => borders.cells(),
     }
-}
-
-/// The first row whose border the extreme does not exceed: a voltage on a border goes to the deeper row.
-fn row(s: &Settings, extreme: u64) -> u64 {
-    [10, 40, 70, 85].iter().filter(|&&percent| above(s, extreme, percent)).count() as u64
-}
-
-/// The first column whose border h stays below: a duration on a border goes to the longer column.
-fn column(s: &Settings, h: u64) -> u64 {
-    let short = [h < 2, 5 * h < s.f, h < s.f, h < 2 * s.f, h < 6 * s.f, h < 40 * s.f, h < 120 * s.f];
-    short.iter().position(|&short| short).unwrap_or(7) as u64
 }

@@ -1,4 +1,5 @@
 //! The site table: where its numbers stand, when it is sound, a fresh one, and a recording added to it.
+use crate::borders;
 use crate::settings::{self, first_bad, reference};
 use crate::{Refused, Settings, Table, TABLE};
 
@@ -7,18 +8,20 @@ pub const FULLEST: u64 = 4_000_000;
 
 /// Where each number stands in the table.
 pub mod at {
-    pub const TOTAL: usize = 7;
-    pub const HEALTHY: usize = 8;
-    pub const DISTURBED: usize = 9;
-    pub const UNKNOWN: usize = 10;
-    pub const CELLS: usize = 11;
-    pub const UNPLACED: usize = 51;
-    pub const SAGS: usize = 52;
-    pub const INTERRUPTIONS: usize = 53;
-    pub const SWELLS: usize = 54;
-    pub const SHORTFALL: usize = 55;
+    /// The set of borders.
+    pub const SET: usize = 7;
+    pub const TOTAL: usize = 8;
+    pub const HEALTHY: usize = 9;
+    pub const DISTURBED: usize = 10;
+    pub const UNKNOWN: usize = 11;
+    pub const CELLS: usize = 12;
+    pub const UNPLACED: usize = 52;
+    pub const SAGS: usize = 53;
+    pub const INTERRUPTIONS: usize = 54;
+    pub const SWELLS: usize = 55;
+    pub const SHORTFALL: usize = 56;
     /// The shortfalls of a, b and c.
-    pub const PARTS: usize = 56;
+    pub const PARTS: usize = 57;
 }
 
 /// The settings that a table holds.
@@ -27,12 +30,12 @@ pub fn settings(t: &Table) -> Settings {
     Settings { n, r, f, sag, interruption, swell, hysteresis }
 }
 
-/// A fresh table for the settings; where they are refused, a table of zeros.
-pub fn fresh(s: &Settings) -> (Result<(), Refused>, Table) {
+/// A fresh table for the settings and the set of borders; where they are refused, a table of zeros.
+pub fn fresh(s: &Settings, set: u64) -> (Result<(), Refused>, Table) {
     let mut table = [0; TABLE];
-    let checked = settings::check(s);
+    let checked = settings::check(s).and_then(|()| borders::check(set));
     if checked.is_ok() {
-        table[..at::TOTAL].copy_from_slice(&[s.n, s.r, s.f, s.sag, s.interruption, s.swell, s.hysteresis]);
+        table[..at::TOTAL].copy_from_slice(&[s.n, s.r, s.f, s.sag, s.interruption, s.swell, s.hysteresis, set]);
     }
     (checked, table)
 }
@@ -49,11 +52,13 @@ pub fn check(t: &Table) -> Result<(), Refused> {
 /// Whether a table could be one that grew here. Offered numbers may be anything, so sums are taken in 128 bits.
 pub fn sound(t: &Table) -> bool {
     let s = settings(t);
+    let Some(borders) = borders::of(t[at::SET]) else { return false };
     let sum = |part: std::ops::RangeInclusive<usize>| t[part].iter().map(|&count| u128::from(count)).sum::<u128>();
     first_bad(&s).is_none()
         && t[at::TOTAL] <= FULLEST
         && sum(at::HEALTHY..=at::UNKNOWN) == u128::from(t[at::TOTAL])
         && sum(at::CELLS..=at::UNPLACED) == u128::from(t[at::SAGS])
+        && t[at::CELLS..at::UNPLACED].iter().skip(borders.cells() as usize).all(|&unused| unused == 0)
         && t[at::SAGS..=at::SWELLS].iter().all(|&events| events <= t[at::TOTAL])
         && u128::from(t[at::SHORTFALL]) <= 3 * reference(&s) * u128::from(t[at::TOTAL])
         && sum(at::PARTS..=at::PARTS + 2) == u128::from(t[at::SHORTFALL])

@@ -2,6 +2,7 @@
 //! once. Each step of half a cycle is summed once, half-cycle k is steps k and k + 1, and while nothing goes on a half-cycle
 //! is asked one thing only. A second look is taken at steps with a sample missing or out of range, and at the half-cycle
 //! that a sag's type is told from. The tests hold it to the naive program.
+use crate::borders::{self, Borders};
 use crate::kinds::{Kind, KINDS};
 use crate::recording::{LONGEST, MISSING};
 use crate::site::{self, at};
@@ -382,8 +383,9 @@ fn count(table: &mut Table, s: &Settings, ended: &Ended) {
             table[at::SAGS] += 1;
             table[at::SHORTFALL] += open.short.iter().sum::<u64>();
             table[at::PARTS..].iter_mut().zip(open.short).for_each(|(sum, short)| *sum += short);
-            let both_seen = open.start_seen && *end_seen;
-            table[if both_seen { at::CELLS + cell(s, open.extreme, end - open.start) } else { at::UNPLACED }] += 1;
+            let borders = borders::of(table[at::SET]).filter(|_| open.start_seen && *end_seen);
+            let placed = borders.map(|borders| at::CELLS + cell(borders, s, open.extreme, end - open.start));
+            table[placed.unwrap_or(at::UNPLACED)] += 1;
         }
         Kind::Interruption => table[at::INTERRUPTIONS] += 1,
         Kind::Swell => table[at::SWELLS] += 1,
@@ -392,9 +394,8 @@ fn count(table: &mut Table, s: &Settings, ended: &Ended) {
 
 /// The cell of a sag of h half-cycles, both ends seen: a voltage on a border goes to the deeper row, a duration to the longer
 /// column.
-fn cell(s: &Settings, extreme: u64, h: u64) -> usize {
-    let above = [10, 40, 70, 85].map(|percent| extreme > top(s, percent));
-    let reached = [h >= 2, 5 * h >= s.f, h >= s.f, h >= 2 * s.f, h >= 6 * s.f, h >= 40 * s.f, h >= 120 * s.f];
-    let passed = |borders: &[bool]| borders.iter().filter(|&&passed| passed).count();
-    8 * passed(&above) + passed(&reached)
+fn cell(borders: &Borders, s: &Settings, extreme: u64, h: u64) -> usize {
+    let above = borders.rows.iter().filter(|&&percent| extreme > top(s, percent));
+    let reached = borders.columns.iter().filter(|border| h >= border.first(s.f));
+    borders.width() as usize * above.count() + reached.count()
 }

@@ -35,7 +35,7 @@ fn count_events(table: &mut Table, events: &[Event]) {
     let of = |kind: u64| events.iter().filter(move |event| event[0] == kind);
     for sag in of(1) {
         let both_seen = sag[3] == 3;
-        table[if both_seen { at::CELLS + cell(&s, sag) as usize } else { at::UNPLACED }] += 1;
+        table[if both_seen { at::CELLS + cell(&s, table[at::SET], sag) as usize } else { at::UNPLACED }] += 1;
         table[at::SHORTFALL] += sag[6];
         for channel in 0..3 {
             table[at::PARTS + channel] += sag[8 + channel];
