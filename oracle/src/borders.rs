@@ -21,7 +21,7 @@ pub struct Borders {
 }
 
 /// Set 0 is source 001's Table 3, by UNIPEDE; set 1 its Table 4, by IEC 61000-4-11.
-const SETS: [Borders; 2] = [
+pub const SETS: [Borders; 2] = [
     Borders {
         rows: &[10, 40, 70, 85],
         columns: &[Cycles(1), Tenths(1), Tenths(5), Tenths(10), Tenths(30), Tenths(200), Tenths(600)],
@@ -35,6 +35,22 @@ pub const MOST: u64 = 40;
 /// The borders of a set; none where it is unknown.
 pub fn of(set: u64) -> Option<&'static Borders> {
     usize::try_from(set).ok().and_then(|set| SETS.get(set))
+}
+
+/// The percentages that some set has a row's border at: where a comparison has to look.
+pub fn all_rows() -> Vec<u64> {
+    let mut rows: Vec<u64> = SETS.iter().flat_map(|borders| borders.rows).copied().collect();
+    rows.sort();
+    rows.dedup();
+    rows
+}
+
+/// The durations that some set has a column's border at, in half-cycles: where a comparison has to look.
+pub fn all_columns(f: u64) -> Vec<u64> {
+    let mut columns: Vec<u64> = SETS.iter().flat_map(|borders| borders.columns).map(|border| border.first(f)).collect();
+    columns.sort();
+    columns.dedup();
+    columns
 }
 
 /// Refusal 1 for an unknown set, which stands after the seven settings.

@@ -1,6 +1,7 @@
 //! The second table of cases, C1, C2, ..: questions chosen by hand for what each of them pins, and any program's answers to
 //! them. `text` writes both as `crates/rules/specs/Cases.antt`, where the definitions are proved to give the second
 //! program's answers.
+mod borders;
 mod channels;
 mod gaps;
 mod making;
@@ -45,8 +46,8 @@ pub struct Case {
 pub enum Asked {
     List { settings: Settings, room: usize, recording: Recording },
     Add { table: Table, recording: Recording },
-    Fresh { settings: Settings },
-    Score { settings: Settings, event: Event },
+    Fresh { settings: Settings, set: u64 },
+    Score { settings: Settings, set: u64, event: Event },
     Straight { settings: Settings, recording: Recording },
 }
 
@@ -66,10 +67,10 @@ type Lister = fn(&Settings, &[i32], &mut [u64]) -> Result<u64, Refused>;
 pub struct Program {
     pub list: Lister,
     pub add: fn(&mut Table, &[i32]) -> Result<(), Refused>,
-    pub fresh: fn(&Settings) -> (Result<(), Refused>, Table),
-    pub score: fn(&Settings, &Event) -> Result<Score, u64>,
-    pub reason: fn(&Settings, &Event) -> u64,
-    pub cell: fn(&Settings, &Event) -> u64,
+    pub fresh: fn(&Settings, u64) -> (Result<(), Refused>, Table),
+    pub score: fn(&Settings, u64, &Event) -> Result<Score, u64>,
+    pub reason: fn(&Settings, u64, &Event) -> u64,
+    pub cell: fn(&Settings, u64, &Event) -> u64,
     /// The shortfalls of a, b and c in an accepted recording.
     pub shortfalls: fn(&Settings, &[i32]) -> [u64; 3],
 }
@@ -98,14 +99,14 @@ impl Program {
                 let told = (self.add)(&mut table, &recording.samples());
                 Answer::Site { told, table }
             }
-            Asked::Fresh { settings } => {
-                let (told, table) = (self.fresh)(settings);
+            Asked::Fresh { settings, set } => {
+                let (told, table) = (self.fresh)(settings, *set);
                 Answer::Site { told, table }
             }
-            Asked::Score { settings, event } => Answer::Judged {
-                reason: (self.reason)(settings, event),
-                score: (self.score)(settings, event),
-                cell: (self.cell)(settings, event),
+            Asked::Score { settings, set, event } => Answer::Judged {
+                reason: (self.reason)(settings, *set, event),
+                score: (self.score)(settings, *set, event),
+                cell: (self.cell)(settings, *set, event),
             },
             Asked::Straight { settings, recording } => Answer::Sums((self.shortfalls)(settings, &recording.samples())),
         }
@@ -140,6 +141,13 @@ pub fn sections() -> Vec<Section> {
         tables::growing(),
         parts::tables(),
         parts::recordings(),
+        borders::columns(),
+        borders::rows(),
+        borders::known(),
+        borders::unscored(),
+        borders::making(),
+        borders::unused(),
+        borders::placing(),
         refusals::lengths(),
         refusals::samples(),
         refusals::room(),
@@ -162,17 +170,27 @@ fn add(table: Table, recording: Recording, pins: impl Into<String>) -> Case {
     Case { pins: pins.into(), asked: Asked::Add { table, recording } }
 }
 
-/// A recording added to a fresh table.
+/// A recording added to a fresh table, by document 01's borders.
 fn add_first(settings: Settings, recording: Recording, pins: impl Into<String>) -> Case {
-    add(crate::fresh(&settings).1, recording, pins)
+    add(crate::fresh(&settings, 0).1, recording, pins)
 }
 
+/// A fresh table for document 01's borders.
 fn fresh(settings: Settings, pins: impl Into<String>) -> Case {
-    Case { pins: pins.into(), asked: Asked::Fresh { settings } }
+    fresh_by(0, settings, pins)
 }
 
+fn fresh_by(set: u64, settings: Settings, pins: impl Into<String>) -> Case {
+    Case { pins: pins.into(), asked: Asked::Fresh { settings, set } }
+}
+
+/// The score of an event, by document 01's borders.
 fn score(settings: Settings, event: Event, pins: impl Into<String>) -> Case {
-    Case { pins: pins.into(), asked: Asked::Score { settings, event } }
+    score_by(0, settings, event, pins)
+}
+
+fn score_by(set: u64, settings: Settings, event: Event, pins: impl Into<String>) -> Case {
+    Case { pins: pins.into(), asked: Asked::Score { settings, set, event } }
 }
 
 /// What each channel lacks in a recording, straight from its samples.

@@ -8,7 +8,7 @@ use crate::Settings;
 const LARGEST: Settings = Settings { n: 512, ..HIGH };
 
 /// A cycle's worth of samples on all channels, their squares adding up to the sum.
-fn all(sum: i32) -> Recording {
+pub fn all(sum: i32) -> Recording {
     let block = |sum: i32| {
         let four = four_squares(sum);
         woven([&four, &four, &four])

@@ -5,7 +5,7 @@ use crate::score::retained;
 use crate::{Event, Settings};
 
 /// A sag of so many half-cycles with both ends seen, on channel a.
-fn sag(s: &Settings, half_cycles: u64, extreme: u64, shortfall: u64) -> Event {
+pub fn sag(s: &Settings, half_cycles: u64, extreme: u64, shortfall: u64) -> Event {
     [1, 7, 7 + half_cycles, 3, extreme, retained(s, extreme), shortfall, 4, shortfall, 0, 0]
 }
 

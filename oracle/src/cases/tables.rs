@@ -1,6 +1,7 @@
 //! Site tables: sound ones and such as are unsound by one in each condition, and what a recording adds.
 use super::recording::{alike, amid, even, sines, uneven, Recording};
 use super::{add, add_first, with, Case, Section, HIGH, HOUSE, TEN, WIDE};
+use crate::borders::SETS;
 use crate::site::at;
 use crate::{fresh, Settings, Table, TABLE};
 
@@ -16,7 +17,7 @@ pub fn brim(s: Settings) -> Table {
         (at::INTERRUPTIONS, 2),
         (at::SWELLS, 2),
     ];
-    short(with(fresh(&s).1, &counts), [6 * s.n * s.r * s.r, 0, 0])
+    short(with(fresh(&s, 0).1, &counts), [6 * s.n * s.r * s.r, 0, 0])
 }
 
 /// The table with the shortfalls of a, b and c, and the total that they make up.
@@ -31,7 +32,7 @@ pub fn with_parts(table: Table, [a, b, c]: [u64; 3]) -> Table {
 
 /// A table with so many half-cycles, all healthy, and nothing else.
 pub fn healthy_only(total: u64) -> Table {
-    with(fresh(&HOUSE).1, &[(at::TOTAL, total), (at::HEALTHY, total)])
+    with(fresh(&HOUSE, 0).1, &[(at::TOTAL, total), (at::HEALTHY, total)])
 }
 
 /// A change of the full table, and the words for it.
@@ -79,31 +80,36 @@ pub fn sound() -> Section {
 
 /// Each number its own, so that one in another's place would show.
 pub fn various() -> Table {
+    various_by(0)
+}
+
+/// The same for a set, with as many cells as it has.
+pub fn various_by(set: u64) -> Table {
     let counts = [
         (at::TOTAL, 10_012),
         (at::HEALTHY, 5_003),
         (at::DISTURBED, 3_001),
         (at::UNKNOWN, 2_008),
         (at::UNPLACED, 57),
-        (at::SAGS, 4_877),
         (at::INTERRUPTIONS, 611),
         (at::SWELLS, 713),
     ];
-    let mut table = short(with(fresh(&HOUSE).1, &counts), [123_456, 345_678, 765_433]);
-    for (i, cell) in table[at::CELLS..at::UNPLACED].iter_mut().enumerate() {
-        *cell = 101 + i as u64;
+    let mut table = short(with(fresh(&HOUSE, set).1, &counts), [123_456, 345_678, 765_433]);
+    for (cell, count) in table[at::CELLS..][..SETS[set as usize].cells() as usize].iter_mut().zip(101..) {
+        *cell = count;
     }
+    table[at::SAGS] = table[at::CELLS..=at::UNPLACED].iter().sum();
     table
 }
 
 /// A full table with so large a shortfall that three sums below it can be 2^64 above it.
 pub fn vast(parts: [u64; 3]) -> Table {
     let counts = [(at::TOTAL, 4_000_000), (at::DISTURBED, 4_000_000), (at::SHORTFALL, 15_000_000_000_000_000_000)];
-    with_parts(with(fresh(&Settings { n: 512, ..HIGH }).1, &counts), parts)
+    with_parts(with(fresh(&Settings { n: 512, ..HIGH }, 0).1, &counts), parts)
 }
 
 /// Ten half-cycles with something of everything: a sag begun before the recording, a sag with an interruption, a swell, a gap.
-fn everything() -> Recording {
+pub fn everything() -> Recording {
     let fall = even(1, 500) + even(2, 1000) + even(2, 0) + even(2, 1000);
     (fall + uneven(1, 1000, 1300, 1000) + even(3, 1000)).lose(12 * 9 + 2)
 }

@@ -1,6 +1,7 @@
 //! The text of `crates/rules/specs/Cases.antt`: the questions, and a program's answers to them.
-use super::tables::{healthy_only, various, vast};
+use super::tables::{healthy_only, various, various_by, vast};
 use super::{sections, Answer, Asked, Case, Program, Section, HIGH, HOUSE, SHARP, TEN, WIDE};
+use crate::borders::{self, MOST};
 use crate::site::{at, settings as settings_of};
 use crate::{Refused, Settings, Table, WORDS};
 
@@ -86,8 +87,10 @@ impl Asked {
             Asked::Add { table, recording } => {
                 format!("add {} {}", argument(&table_text(table)), argument(&recording.text()))
             }
-            Asked::Fresh { settings } => format!("fresh {}", settings_text(settings)),
-            Asked::Score { settings, event } => format!("score {} (event {})", settings_text(settings), joined(event)),
+            Asked::Fresh { settings, set } => format!("fresh {} {set}", settings_text(settings)),
+            Asked::Score { settings, set, event } => {
+                format!("score {} {set} (event {})", settings_text(settings), joined(event))
+            }
             Asked::Straight { settings, recording } => {
                 format!("straight {} {}", settings_text(settings), argument(&recording.text()))
             }
@@ -148,11 +151,14 @@ fn settings_text(s: &Settings) -> String {
 }
 
 fn table_text(table: &Table) -> String {
-    let settings = settings_text(&settings_of(table));
+    let (settings, set) = (settings_text(&settings_of(table)), table[at::SET]);
     let total = table[at::TOTAL];
     let [a, b, c] = [0, 1, 2].map(|channel| table[at::PARTS + channel]);
     if *table == various() {
         return "various".to_string();
+    }
+    if *table == various_by(1) {
+        return "otherVarious".to_string();
     }
     if *table == vast([a, b, c]) {
         return format!("vast {a} {b} {c}");
@@ -161,18 +167,22 @@ fn table_text(table: &Table) -> String {
         return format!("healthyOnly {total}");
     }
     if table[at::TOTAL..].iter().all(|&number| number == 0) {
-        return format!("blank {settings}");
+        return format!("blank {settings} {set}");
     }
-    let cells = cells_text(&table[at::CELLS..at::UNPLACED]);
-    format!("table {settings} {} {cells} {}", joined(&table[at::TOTAL..at::CELLS]), joined(&table[at::UNPLACED..]))
+    let cells = cells_text(set, &table[at::CELLS..at::UNPLACED]);
+    let (before, after) = (joined(&table[at::TOTAL..at::CELLS]), joined(&table[at::UNPLACED..]));
+    format!("table {settings} {set} {before} {cells} {after}")
 }
 
-/// The forty cells: none, or rising by one from cell to cell, and those that differ.
-fn cells_text(cells: &[u64]) -> String {
-    let first = cells[39].saturating_sub(39);
-    let rises = cells[39] > 39 && cells[38] == cells[39] - 1;
-    let from = if rises { format!("rising 40 {first}") } else { "none".to_string() };
-    let usual = |i: usize| if rises { first + i as u64 } else { 0 };
+/// The forty cells: none, or those of the set rising by one from cell to cell, and those that differ.
+fn cells_text(set: u64, cells: &[u64]) -> String {
+    let used = borders::of(set).map_or(MOST, |borders| borders.cells());
+    let last = used as usize - 1;
+    let rises = cells[last] >= used && cells[last - 1] == cells[last] - 1;
+    let first = cells[last].saturating_sub(used - 1);
+    let unused = if used < MOST { " ++ unused" } else { "" };
+    let from = if rises { format!("rising {used} {first}{unused}") } else { "none".to_string() };
+    let usual = |i: usize| if rises && i <= last { first + i as u64 } else { 0 };
     let differs = cells.iter().enumerate().filter(|&(i, &count)| count != usual(i));
     let cells = differs.fold(from, |cells, (i, count)| format!("put {i} {count} {}", argument(&cells)));
     argument(&cells)

@@ -25,8 +25,8 @@ pub fn of_the_product(case: &Case) -> Answer {
     match case {
         Case::List { settings, samples, room } => product_list(settings, samples, *room),
         Case::Add { table, samples } => product_add(table, samples),
-        Case::Fresh { settings } => product_fresh(settings),
-        Case::Score { settings, event } => product_score(settings, event),
+        Case::Fresh { settings, set } => product_fresh(settings, *set),
+        Case::Score { settings, set, event } => product_score(settings, *set, event),
     }
 }
 
@@ -35,8 +35,8 @@ pub fn of_the_oracle(case: &Case) -> Answer {
     match case {
         Case::List { settings, samples, room } => oracle_list(settings, samples, *room),
         Case::Add { table, samples } => oracle_add(table, samples),
-        Case::Fresh { settings } => oracle_fresh(settings),
-        Case::Score { settings, event } => oracle_score(settings, event),
+        Case::Fresh { settings, set } => oracle_fresh(settings, *set),
+        Case::Score { settings, set, event } => oracle_score(settings, *set, event),
     }
 }
 
@@ -87,19 +87,20 @@ fn oracle_add(table: &Table, samples: &[i32]) -> Answer {
 }
 
 #[rustfmt::skip]
-fn product_fresh(s: &Settings) -> Answer {
+fn product_fresh(s: &Settings, set: u64) -> Answer {
     let (mut memory, mut place) = (filled(TABLE + GUARD), UNWRITTEN);
     // SAFETY: the pointers are this function's own; the table ends before the guard.
     let number = unsafe {
         host::raw::burr_fresh(
-            s.n, s.r, s.f, s.sag, s.interruption, s.swell, s.hysteresis, memory.as_mut_ptr(), &mut place,
+            s.n, s.r, s.f, s.sag, s.interruption, s.swell, s.hysteresis, set,
+            memory.as_mut_ptr(), &mut place,
         )
     };
     vec![("number", vec![number]), ("place", vec![place]), ("table", memory)]
 }
 
-fn oracle_fresh(s: &Settings) -> Answer {
-    let (made, table) = crate::fresh(s);
+fn oracle_fresh(s: &Settings, set: u64) -> Answer {
+    let (made, table) = crate::fresh(s, set);
     let (number, place) = refusal(made);
     let mut memory = filled(TABLE + GUARD);
     memory[..TABLE].copy_from_slice(&table);
@@ -107,25 +108,25 @@ fn oracle_fresh(s: &Settings) -> Answer {
 }
 
 #[rustfmt::skip]
-fn product_score(s: &Settings, e: &Event) -> Answer {
+fn product_score(s: &Settings, set: u64, e: &Event) -> Answer {
     let (mut severity, mut energy) = (f64::from_bits(UNWRITTEN), f64::from_bits(UNWRITTEN));
     // SAFETY: both floats are this function's own.
     let why = unsafe {
         host::raw::burr_score(
-            s.n, s.r, s.f, s.sag, s.interruption, s.swell, s.hysteresis,
+            s.n, s.r, s.f, s.sag, s.interruption, s.swell, s.hysteresis, set,
             e[0], e[1], e[2], e[3], e[4], e[5], e[6], e[7], e[8], e[9], e[10],
             &mut severity, &mut energy,
         )
     };
-    scored(why, severity.to_bits(), energy.to_bits(), host::reason(s, e), host::cell(s, e))
+    scored(why, severity.to_bits(), energy.to_bits(), host::reason(s, set, e), host::cell(s, set, e))
 }
 
-fn oracle_score(s: &Settings, e: &Event) -> Answer {
-    let (why, severity, energy) = match crate::score(s, e) {
+fn oracle_score(s: &Settings, set: u64, e: &Event) -> Answer {
+    let (why, severity, energy) = match crate::score(s, set, e) {
         Ok(score) => (0, score.severity.to_bits(), score.energy.to_bits()),
         Err(why) => (why, UNWRITTEN, UNWRITTEN),
     };
-    scored(why, severity, energy, crate::reason(s, e), crate::cell(s, e))
+    scored(why, severity, energy, crate::reason(s, set, e), crate::cell(s, set, e))
 }
 
 fn scored(why: u64, severity: u64, energy: u64, reason: u64, cell: u64) -> Answer {

@@ -1,7 +1,8 @@
 //! Event words for the comparison: from real lists, changed by one, on every border, and anything at all.
 use super::{parts, recordings};
+use crate::borders::{all_columns, all_rows};
 use crate::random::Random;
-use crate::score::{retained, sum_at};
+use crate::score::{beside_the_steps, retained, sum_at};
 use crate::settings::{first_bad, reference};
 use crate::{plain, Event, Settings, WORDS};
 
@@ -73,9 +74,9 @@ fn bordering(random: &mut Random, s: &Settings) -> Event {
     [kind, start, end, seen, extreme, retained, shortfall, class, a, b, c]
 }
 
-/// A number of half-cycles where the curve steps, a column begins, or anything.
+/// A number of half-cycles where the curve steps, a column of some set begins, or anything.
 fn duration(random: &mut Random, s: &Settings) -> u64 {
-    let steps = [1, 2, 3, s.f / 5, 2 * s.f / 5, s.f, 2 * s.f, 6 * s.f, 20 * s.f, 40 * s.f, 120 * s.f, 100_000];
+    let steps = [&beside_the_steps(s.f)[..], &all_columns(s.f), &[1, 100_000]].concat();
     match random.below(4) {
         0 => random.between(0, 60),
         1 => random.between(0, 100_000),
@@ -83,7 +84,7 @@ fn duration(random: &mut Random, s: &Settings) -> u64 {
     }
 }
 
-/// A sum where a row begins, at a threshold, in the last row, which is narrow, at a whole thousandth or a half, or anything
+/// A sum where a row of some set begins, at a threshold, in the last row, which is narrow, at a whole thousandth or a half, or anything
 /// allowed; the first beyond, too.
 fn extreme(random: &mut Random, s: &Settings) -> u64 {
     let most = s.n * 10_000_000_000;
@@ -91,8 +92,8 @@ fn extreme(random: &mut Random, s: &Settings) -> u64 {
     let beside = |random: &mut Random, sum: u64| (sum + random.below(3)).saturating_sub(1);
     match random.below(9) {
         0..=2 => {
-            let row = random.pick(&[100, 400, 700, 850]);
-            beside(random, at(row))
+            let row = random.pick(&all_rows());
+            beside(random, at(10 * row))
         }
         3 => beside(random, at(10 * s.sag)),
         4 => {

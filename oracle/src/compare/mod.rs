@@ -8,6 +8,7 @@ mod settings;
 mod shrink;
 mod tables;
 
+use crate::borders::SETS;
 use crate::random::Random;
 use crate::settings::first_bad;
 use crate::{Event, Settings, Table};
@@ -24,8 +25,8 @@ pub use recordings::{three_phase, Phasors};
 pub enum Case {
     List { settings: Settings, samples: Vec<i32>, room: usize },
     Add { table: Table, samples: Vec<i32> },
-    Fresh { settings: Settings },
-    Score { settings: Settings, event: Event },
+    Fresh { settings: Settings, set: u64 },
+    Score { settings: Settings, set: u64, event: Event },
 }
 
 /// A case as it was drawn.
@@ -114,7 +115,8 @@ pub fn draw(seed: u64, number: u64) -> Drawn {
     match random.below(20) {
         0..=7 => draw_list(random, number),
         8..=12 => draw_add(random, number),
-        13 => Drawn { case: Case::Fresh { settings: settings::good_or_bad(random, number) }, near: 0 },
+        13 => draw_fresh(random, number),
+        14 => draw_placed(random, number),
         _ => draw_score(random, number),
     }
 }
@@ -151,14 +153,29 @@ fn draw_room(random: &mut Random, s: &Settings, samples: &[i32]) -> usize {
 fn draw_add(random: &mut Random, number: u64) -> Drawn {
     let drawn = settings::good(random, number);
     let (settings, Recording { samples, near }) = draw_recording(random, drawn);
-    let table = tables::any(random, &settings, &samples);
+    let set = settings::known_set(random);
+    let table = tables::any(random, &settings, set, &samples);
     Drawn { case: Case::Add { table, samples }, near }
+}
+
+/// A single sag to be placed by the table's borders, under a sag threshold that leaves none of its rows empty.
+fn draw_placed(random: &mut Random, number: u64) -> Drawn {
+    let (set, sag) = (settings::known_set(random), random.between(90, 95));
+    let settings = Settings { n: random.pick(&[8, 8, 10, 16]), sag, ..settings::good(random, number) };
+    let Recording { samples, near } = recordings::one_sag(random, &settings, &SETS[set as usize]);
+    let table = tables::any(random, &settings, set, &samples);
+    Drawn { case: Case::Add { table, samples }, near }
+}
+
+fn draw_fresh(random: &mut Random, number: u64) -> Drawn {
+    let (settings, set) = (settings::good_or_bad(random, number), settings::any_set(random));
+    Drawn { case: Case::Fresh { settings, set }, near: 0 }
 }
 
 fn draw_score(random: &mut Random, number: u64) -> Drawn {
     let settings = settings::mostly_good(random, number);
     let (event, near) = events::any(random, &settings);
-    Drawn { case: Case::Score { settings, event }, near }
+    Drawn { case: Case::Score { settings, set: settings::any_set(random), event }, near }
 }
 
 /// How many differing words of one answer are printed.
@@ -200,8 +217,10 @@ impl fmt::Display for Case {
                 write!(f, "list, {settings:?}, room {room}, {}", Samples(samples))
             }
             Case::Add { table, samples } => write!(f, "add, table {table:?}, {}", Samples(samples)),
-            Case::Fresh { settings } => write!(f, "fresh, {settings:?}"),
-            Case::Score { settings, event } => write!(f, "score, reason and cell, {settings:?}, event {event:?}"),
+            Case::Fresh { settings, set } => write!(f, "fresh, {settings:?}, set {set}"),
+            Case::Score { settings, set, event } => {
+                write!(f, "score, reason and cell, {settings:?}, set {set}, event {event:?}")
+            }
         }
     }
 }

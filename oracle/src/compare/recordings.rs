@@ -1,5 +1,6 @@
 //! Recordings for the comparison: levels on and beside each border, three-phase sines with sags of every type, noise,
 //! gaps, samples out of range, and lengths that are turned away.
+use crate::borders::{all_rows, Border, Borders};
 use crate::random::Random;
 use crate::recording::MISSING;
 use crate::score::sum_at;
@@ -21,6 +22,11 @@ impl Recording {
     /// Samples that were drawn without a level to meet.
     fn without_levels(samples: Vec<i32>) -> Recording {
         Recording { samples, near: 0 }
+    }
+
+    fn append(&mut self, next: &Recording) {
+        self.samples.extend(&next.samples);
+        self.near += next.near;
     }
 }
 
@@ -70,7 +76,7 @@ pub fn long(random: &mut Random, s: &Settings) -> Recording {
     let mut level = [s.r as i32; 3];
     for _ in 0..blocks {
         if hold == 0 {
-            hold = random.pick(&[1, 2, 3, 5, 40, 300, 2_000, 6 * s.f, 40 * s.f, 120 * s.f]) + random.below(3);
+            hold = random.pick(&[1, 2, 3, 5, 40, 300, 2_000, 6 * s.f, 10 * s.f, 40 * s.f, 120 * s.f]) + random.below(3);
             let v = s.r * random.pick(&[0, 5, 10, 39, 41, 69, 84, 91, 100, 100, 100, 112, 130]) / 100;
             level = if random.once_in(3) { [v as i32, s.r as i32, s.r as i32] } else { [v as i32; 3] };
             level.rotate_right(random.below(3) as usize);
@@ -86,9 +92,41 @@ pub fn long(random: &mut Random, s: &Settings) -> Recording {
     Recording::without_levels(samples)
 }
 
+/// A sag in any cell of the set, on a border of its row and of its column or just beyond it, on one channel or on all.
+pub fn one_sag(random: &mut Random, s: &Settings, borders: &Borders) -> Recording {
+    let (level, beside) = in_a_row(random, borders.rows);
+    let h = in_a_column(random, s, borders.columns);
+    // A window half in the low blocks is in the sag too, or isn't: beside high blocks it never is.
+    let (flank, lasts) = random.pick(&[(2_800, h + 1), (2_000, h + 1), (2_000, h.saturating_sub(1).max(1))]);
+    let (calm, flank) = (at_the_reference(s, 1), block_of(s, flank, 0));
+    let mut low = Recording::default();
+    for piece in [&calm, &flank, &held(s, level, beside, lasts as usize), &flank, &calm] {
+        low.append(piece);
+    }
+    let others = if random.once_in(2) { low.clone() } else { at_the_reference(s, lasts as usize + 4) };
+    interleaved(random, [low, others.clone(), others])
+}
+
+/// A level on the border of a row, one unit below it, or one above the border before.
+fn in_a_row(random: &mut Random, rows: &[u64]) -> (u64, i64) {
+    let row = random.below(rows.len() as u64 + 1) as usize;
+    match rows.get(row) {
+        Some(percent) if row == 0 || random.once_in(2) => (20 * percent, random.pick(&[-1, 0])),
+        _ => (20 * rows[row - 1], 1),
+    }
+}
+
+/// The last duration of a column, or the first.
+fn in_a_column(random: &mut Random, s: &Settings, columns: &[Border]) -> u64 {
+    let column = random.below(columns.len() as u64 + 1) as usize;
+    match columns.get(column) {
+        Some(border) if column == 0 || random.once_in(2) => border.first(s.f) - 1,
+        _ => columns[column - 1].first(s.f),
+    }
+}
+
 /// A run of blocks, each channel's level held for a few blocks and then drawn anew from the borders and beside them.
 fn levels(random: &mut Random, s: &Settings, blocks: usize) -> Recording {
-    let per_block = s.n as usize / 2;
     let manner = random.below(4);
     let mut channels: [Recording; 3] = Default::default();
     for channel in 0..3 {
@@ -99,10 +137,14 @@ fn levels(random: &mut Random, s: &Settings, blocks: usize) -> Recording {
             _ => one_channel(random, s, blocks),
         };
     }
-    // Any channel may be the one that differs: what is told of one shows only where the others are not like it.
+    interleaved(random, channels)
+}
+
+/// Any channel may be the one that differs: what is told of one shows only where the others are not like it.
+fn interleaved(random: &mut Random, mut channels: [Recording; 3]) -> Recording {
     channels.rotate_right(random.below(3) as usize);
     let [a, b, c] = &channels;
-    let samples = (0..blocks * per_block).flat_map(|i| [a.samples[i], b.samples[i], c.samples[i]]).collect();
+    let samples = (0..a.samples.len()).flat_map(|i| [a.samples[i], b.samples[i], c.samples[i]]).collect();
     Recording { samples, near: a.near + b.near + c.near }
 }
 
@@ -118,16 +160,18 @@ fn one_channel(random: &mut Random, s: &Settings, blocks: usize) -> Recording {
         let hold = (random.between(1, 5) as usize).min(left);
         let halves = border(random, s);
         let beside = random.pick(&[-1, 0, 0, 1]);
-        // Two neighbouring blocks make a window; only one of them is moved, so that the window is off by one unit.
-        let (moved, still) = (block_of(s, halves, beside), block_of(s, halves, 0));
-        for i in 0..hold {
-            let block = if i % 2 == 0 { &moved } else { &still };
-            channel.samples.extend(&block.samples);
-            channel.near += block.near;
-        }
+        channel.append(&held(s, halves, beside, hold));
         left -= hold;
     }
     channel
+}
+
+/// Blocks at one level, moved by so many units. Two neighbouring blocks make a window, and only one of them is moved.
+fn held(s: &Settings, halves: u64, beside: i64, blocks: usize) -> Recording {
+    let (moved, still) = (block_of(s, halves, beside), block_of(s, halves, 0));
+    let mut held = Recording::default();
+    (0..blocks).for_each(|i| held.append(if i % 2 == 0 { &moved } else { &still }));
+    held
 }
 
 /// A level in halves of a thousandth of the reference: most often one that some rule compares with, else any or one beside. The
@@ -143,7 +187,7 @@ fn border(random: &mut Random, s: &Settings) -> u64 {
     ];
     match random.below(8) {
         0..=3 => 2 * random.pick(&compared),
-        4 => 2 * random.pick(&[100, 400, 700, 850]),
+        4 => 20 * random.pick(&all_rows()),
         5 => 2 * random.pick(&[0, 500, 1_000, 1_000, 1_000, 1_200]),
         6 => 2 * random.pick(&compared) + random.below(13) - 6,
         _ => random.below(3_200),

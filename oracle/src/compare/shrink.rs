@@ -2,7 +2,7 @@
 use super::{differs, Case};
 use crate::recording::MISSING;
 use crate::site::{self, at};
-use crate::{Settings, TABLE};
+use crate::{Event, Settings, Table};
 use std::time::{Duration, Instant};
 
 /// Enough for most cases; what is left of a very long one is printed as far as it got.
@@ -37,42 +37,53 @@ fn candidates(case: &Case) -> Box<dyn Iterator<Item = Case> + '_> {
             Box::new(shorter.chain(rooms))
         }
         Case::Add { table, samples } => {
-            let settings = site::settings(table);
-            let shorter = recordings(settings, samples).map(move |samples| Case::Add { table: *table, samples });
-            let tables = (at::TOTAL..TABLE).flat_map(move |i| {
-                numbers(table[i]).map(move |word| {
-                    let mut table = *table;
-                    table[i] = word;
-                    Case::Add { table, samples: samples.clone() }
-                })
-            });
-            let fresh = Case::Add { table: site::fresh(&settings).1, samples: samples.clone() };
-            let less_short = numbers(table[at::SHORTFALL]).map(move |less| {
-                let mut table = *table;
-                table[at::SHORTFALL] = less;
-                table[at::PARTS..].copy_from_slice(&all_on_a(less));
-                Case::Add { table, samples: samples.clone() }
-            });
-            Box::new(shorter.chain([fresh]).chain(less_short).chain(tables))
+            let shorter = recordings(site::settings(table), samples);
+            let shorter = shorter.map(move |samples| Case::Add { table: *table, samples });
+            Box::new(shorter.chain(tables(table).map(move |table| Case::Add { table, samples: samples.clone() })))
         }
-        Case::Fresh { .. } => Box::new(std::iter::empty()),
-        Case::Score { settings, event } => {
-            let less_short = numbers(event[6]).map(move |less| {
-                let mut event = *event;
-                event[6] = less;
-                event[8..].copy_from_slice(&all_on_a(less));
-                Case::Score { settings: *settings, event }
-            });
-            let words = (0..event.len()).flat_map(move |i| {
-                numbers(event[i]).map(move |word| {
-                    let mut event = *event;
-                    event[i] = word;
-                    Case::Score { settings: *settings, event }
-                })
-            });
-            Box::new(less_short.chain(words))
+        Case::Fresh { settings, set } => {
+            Box::new(numbers(*set).map(move |set| Case::Fresh { settings: *settings, set }))
+        }
+        Case::Score { settings, set, event } => {
+            let (settings, set) = (*settings, *set);
+            let sets = numbers(set).map(move |set| Case::Score { settings, set, event: *event });
+            Box::new(sets.chain(events(event).map(move |event| Case::Score { settings, set, event })))
         }
     }
+}
+
+/// Simpler tables: a fresh one, one with less shortfall, one with a number smaller.
+fn tables(table: &Table) -> impl Iterator<Item = Table> + '_ {
+    let fresh = site::fresh(&site::settings(table), table[at::SET]).1;
+    let less_short = numbers(table[at::SHORTFALL]).map(move |less| {
+        let mut table = *table;
+        table[at::SHORTFALL] = less;
+        table[at::PARTS..].copy_from_slice(&all_on_a(less));
+        table
+    });
+    std::iter::once(fresh).chain(less_short).chain(one_smaller(table, at::SET))
+}
+
+/// Simpler events: one with less shortfall, one with a number smaller.
+fn events(event: &Event) -> impl Iterator<Item = Event> + '_ {
+    let less_short = numbers(event[6]).map(move |less| {
+        let mut event = *event;
+        event[6] = less;
+        event[8..].copy_from_slice(&all_on_a(less));
+        event
+    });
+    less_short.chain(one_smaller(event, 0))
+}
+
+/// The same words with one of them smaller, from this place on.
+fn one_smaller<const N: usize>(words: &[u64; N], first: usize) -> impl Iterator<Item = [u64; N]> + '_ {
+    (first..N).flat_map(move |i| {
+        numbers(words[i]).map(move |word| {
+            let mut words = *words;
+            words[i] = word;
+            words
+        })
+    })
 }
 
 /// A shortfall's parts. They go down with it: alone it would no longer be what they add up to.

@@ -180,7 +180,7 @@ fn rounds(size: Size, mut call: impl FnMut(&Program)) -> [Time; 3] {
 
 /// What a program answers to one recording: events, their words, and a fresh table that it was added to.
 fn answer(program: &Program, s: &Settings, samples: &[i32], room: &mut [u64]) -> (u64, Vec<u64>, Table) {
-    let mut table = oracle::fresh(s).1;
+    let mut table = oracle::fresh(s, 0).1;
     room.fill(0);
     let events = (program.list)(s, samples, room).expect("an accepted recording");
     (program.add)(&mut table, samples).expect("an accepted recording");
@@ -198,7 +198,7 @@ fn measure(size: Size, s: &Settings, samples: &[i32]) -> (u64, Table, Times) {
     let list = rounds(size, |program| {
         let _ = black_box((program.list)(s, black_box(samples), &mut room));
     });
-    let fresh = oracle::fresh(s).1;
+    let fresh = oracle::fresh(s, 0).1;
     let add = rounds(size, |program| {
         let mut grown = fresh;
         let _ = black_box((program.add)(black_box(&mut grown), black_box(samples)));
@@ -230,7 +230,7 @@ fn answer_growth(words: &[String]) -> Option<u64> {
     let number = |i: usize| words.get(i)?.parse::<u64>().ok();
     let s = settings(number(1)?);
     let samples = recording(&s, number(2)?, Course { per_mille: number(3)?, missing: number(4)? }, 1);
-    let (mut room, mut table) = (vec![1; oracle::WORDS * 40_000], oracle::fresh(&s).1);
+    let (mut room, mut table) = (vec![1; oracle::WORDS * 40_000], oracle::fresh(&s, 0).1);
     let before = status("VmHWM:");
     (program.list)(&s, &samples, &mut room).ok()?;
     (program.add)(&mut table, &samples).ok()?;
