@@ -39,13 +39,13 @@ data Lent : Type 0 where
   run : List ℕ → Lent
   site : Table → Lent
 
--- the list of a recording, into a lent run of so many numbers that are all 9; a recording added to a table; a fresh table; the
--- score of an event; the shortfalls of a, b and c straight from the samples
+-- the list of a recording, into a lent run of so many numbers that are all 9; a recording added to a table; a fresh table for a
+-- set of borders; the score of an event by a set; the shortfalls of a, b and c straight from the samples
 data Asked : Type 0 where
   list : Settings → (room : ℕ) → List ℤ → Asked
   add : Table → List ℤ → Asked
-  fresh : Settings → Asked
-  score : Settings → Event → Asked
+  fresh : Settings → (set : ℕ) → Asked
+  score : Settings → (set : ℕ) → Event → Asked
   straight : Settings → List ℤ → Asked
 
 -- so many events; taken; a refusal with its number and place: each with what the run or the table holds afterwards. Or an
@@ -76,8 +76,8 @@ toldOfSite (Refused r) holds = refused (numberOf r) (placeIn r) holds
 answerTo : Asked → Answer
 answerTo (list s room xs) = toldOfList (listed s xs room) (run (written s xs (nines room)))
 answerTo (add t xs) = let handed = added t xs in toldOfSite (handed .answer) (site (handed .table))
-answerTo (fresh s) = let handed = freshened s in toldOfSite (handed .answer) (site (handed .table))
-answerTo (score s e) = judged (reasonOf s e) (scoring s e) (cellOf s e)
+answerTo (fresh s set) = let handed = freshened s set in toldOfSite (handed .answer) (site (handed .table))
+answerTo (score s set e) = judged (reasonBy s set e) (scoringBy s set e) (cellOf s set e)
 answerTo (straight s xs) = sums (sagShort s xs 0 ∷ sagShort s xs 1 ∷ sagShort s xs 2 ∷ [])
 
 asked-again : Case → Case
@@ -143,13 +143,14 @@ unscored reason cell = judged reason (Unscored reason) cell
 
 abbrev table :
     Settings
-    → (total healthy disturbed unknown : ℕ)
+    → (set total healthy disturbed unknown : ℕ)
     → List ℕ
     → (unplaced sags interruptions swells shortfall a b c : ℕ)
     → Table
-table s total healthy disturbed unknown cells unplaced sags interruptions swells shortfall a b c =
+table s set total healthy disturbed unknown cells unplaced sags interruptions swells shortfall a b c =
     record {
       settings = s;
+      set = set;
       total = total;
       healthy = healthy;
       disturbed = disturbed;
@@ -163,7 +164,8 @@ table s total healthy disturbed unknown cells unplaced sags interruptions swells
       parts = record { a = a; b = b; c = c };
     }
 
--- forty cells with nothing in them; so many in one cell; n counts that rise by one
+-- forty cells with nothing in them; so many in one cell; n counts that rise by one; the 25 cells of set 1 with such counts, and
+-- those that it does not use
 abbrev none : List ℕ
 none = replicate 40 0
 
@@ -174,19 +176,25 @@ abbrev rising : (n from : ℕ) → List ℕ
 rising zero from = []
 rising (suc n) from = from ∷ rising n (suc from)
 
--- a table with nothing in it but its settings; with nothing but healthy half-cycles; with a number of its own in each place;
--- with so large a shortfall that three sums below it can be 2^64 above it
-abbrev blank : Settings → Table
-blank s = table s 0 0 0 0 none 0 0 0 0 0 0 0 0
+abbrev few : (from : ℕ) → List ℕ
+few from = rising 25 from ++ replicate 15 0
+
+-- a table with nothing in it but its settings and its set; with nothing but healthy half-cycles; with a number of its own in each
+-- place; the same for set 1; with so large a shortfall that three sums below it can be 2^64 above it
+abbrev blank : Settings → (set : ℕ) → Table
+blank s set = table s set 0 0 0 0 none 0 0 0 0 0 0 0 0
 
 abbrev healthyOnly : ℕ → Table
-healthyOnly n = table house n n 0 0 none 0 0 0 0 0 0 0 0
+healthyOnly n = table house 0 n n 0 0 none 0 0 0 0 0 0 0 0
 
 abbrev various : Table
-various = table house 10012 5003 3001 2008 (rising 40 101) 57 4877 611 713 1234567 123456 345678 765433
+various = table house 0 10012 5003 3001 2008 (rising 40 101) 57 4877 611 713 1234567 123456 345678 765433
+
+abbrev otherVarious : Table
+otherVarious = table house 1 10012 5003 3001 2008 (few 101) 57 2882 611 713 1234567 123456 345678 765433
 
 abbrev vast : (a b c : ℕ) → Table
-vast a b c = table (settings 512 50000 50 90 10 110 2) 4000000 0 4000000 0 none 0 0 0 0 15000000000000000000 a b c
+vast a b c = table (settings 512 50000 50 90 10 110 2) 0 4000000 0 4000000 0 none 0 0 0 0 15000000000000000000 a b c
 
 -- ---- recordings
 
@@ -259,8 +267,8 @@ sags =
     ∷ list house 12 (even 2 1000 ++ uneven 1 500 600 700 ++ uneven 1 1000 600 700 ++ uneven 1 1000 1000 700 ++ even 2 1000)
     ⟶ events 1 (run (words 1 1 5 3 2880000 600 28480000 4 6000000 10240000 12240000 ++ nines 1))
     -- C6: the same, in the table
-    ∷ add (blank house) (even 2 1000 ++ uneven 1 500 600 700 ++ uneven 1 1000 600 700 ++ uneven 1 1000 1000 700 ++ even 2 1000)
-    ⟶ taken (site (table house 6 2 4 0 (put 17 1 none) 0 1 0 0 28480000 6000000 10240000 12240000))
+    ∷ add (blank house 0) (even 2 1000 ++ uneven 1 500 600 700 ++ uneven 1 1000 600 700 ++ uneven 1 1000 1000 700 ++ even 2 1000)
+    ⟶ taken (site (table house 0 6 2 4 0 (put 17 1 none) 0 1 0 0 28480000 6000000 10240000 12240000))
     -- C7: c first, then b, last a
     ∷ list house 12 (even 2 1000 ++ uneven 1 500 600 700 ++ uneven 1 500 600 1000 ++ uneven 1 500 1000 1000 ++ even 2 1000)
     ⟶ events 1 (run (words 1 1 5 3 2000000 500 32320000 6 18000000 10240000 4080000 ++ nines 1))
@@ -318,8 +326,8 @@ interruptions =
     ∷ list house 23 (even 2 1000 ++ even 2 0 ++ uneven 2 0 110 119 ++ even 1 0 ++ even 2 1000)
     ⟶ events 2 (run (words 1 1 7 3 0 0 119579824 0 40000000 39806400 39773424 ++ words 2 2 6 3 0 0 0 0 0 0 0 ++ nines 1))
     -- C23: two interruptions in one sag, in the table
-    ∷ add (blank house) (even 2 1000 ++ even 2 0 ++ uneven 2 0 500 0 ++ even 2 0 ++ even 2 1000)
-    ⟶ taken (site (table house 9 2 7 0 (put 1 1 none) 0 1 2 0 140000000 48000000 44000000 48000000))
+    ∷ add (blank house 0) (even 2 1000 ++ even 2 0 ++ uneven 2 0 500 0 ++ even 2 0 ++ even 2 1000)
+    ⟶ taken (site (table house 0 9 2 7 0 (put 1 1 none) 0 1 2 0 140000000 48000000 44000000 48000000))
     ∷ []
 
 -- ---- swells on unequal channels
@@ -345,8 +353,8 @@ swells =
     ∷ list house 12 (even 2 1000 ++ uneven 2 1100 1250 1200 ++ even 2 1000)
     ⟶ events 1 (run (words 3 1 4 3 12500000 1250 0 0 0 0 0 ++ nines 1))
     -- C30: hysteresis 5: channel b keeps the swell at 116 percent; in the table
-    ∷ add (blank wide) (even 2 1000 ++ uneven 1 1600 1000 1000 ++ uneven 2 1000 1160 1000 ++ even 2 1000)
-    ⟶ taken (site (table wide 6 3 3 0 none 0 0 0 1 0 0 0 0))
+    ∷ add (blank wide 0) (even 2 1000 ++ uneven 1 1600 1000 1000 ++ uneven 2 1000 1160 1000 ++ even 2 1000)
+    ⟶ taken (site (table wide 0 6 3 3 0 none 0 0 0 1 0 0 0 0))
     ∷ []
 
 -- ---- events of different kinds at once: by start, then kind
@@ -364,8 +372,8 @@ overlaps =
     ⟶ events 3 (run (words 3 1 2 3 10553600 1149 0 0 0 0 0 ++ words 1 3 6 3 0 0 60000000 0 20000000 20000000 20000000
     ++ words 2 3 5 3 0 0 0 0 0 0 0 ++ nines 1))
     -- C34: the same, in the table
-    ∷ add (blank house) (even 2 1000 ++ even 1 1280 ++ even 3 0 ++ even 2 1000)
-    ⟶ taken (site (table house 7 3 4 0 (put 1 1 none) 0 1 1 1 60000000 20000000 20000000 20000000))
+    ∷ add (blank house 0) (even 2 1000 ++ even 1 1280 ++ even 3 0 ++ even 2 1000)
+    ⟶ taken (site (table house 0 7 3 4 0 (put 1 1 none) 0 1 1 1 60000000 20000000 20000000 20000000))
     -- C35: a sag and a swell start and end together: the sag is first
     ∷ list house 23 (even 2 1000 ++ uneven 2 1200 500 1000 ++ even 2 1000)
     ⟶ events 2 (run (words 1 1 4 3 2000000 500 12000000 3 0 12000000 0 ++ words 3 1 4 3 11520000 1200 0 0 0 0 0 ++ nines 1))
@@ -373,23 +381,23 @@ overlaps =
     ∷ list house 23 (even 2 1000 ++ uneven 1 1300 1000 1000 ++ uneven 2 1300 500 1000 ++ uneven 1 1300 1000 1000 ++ even 2 1000)
     ⟶ events 2 (run (words 3 1 6 3 13520000 1300 0 0 0 0 0 ++ words 1 2 5 3 2000000 500 12000000 3 0 12000000 0 ++ nines 1))
     -- C37: the same, in the table: each half-cycle is counted once
-    ∷ add (blank house) (even 2 1000 ++ uneven 1 1300 1000 1000 ++ uneven 2 1300 500 1000 ++ uneven 1 1300 1000 1000
+    ∷ add (blank house 0) (even 2 1000 ++ uneven 1 1300 1000 1000 ++ uneven 2 1300 500 1000 ++ uneven 1 1300 1000 1000
     ++ even 2 1000)
-    ⟶ taken (site (table house 7 2 5 0 (put 17 1 none) 0 1 0 1 12000000 0 12000000 0))
+    ⟶ taken (site (table house 0 7 2 5 0 (put 17 1 none) 0 1 0 1 12000000 0 12000000 0))
     -- C38: a swell starts in a sag and outlasts it
     ∷ list house 23 (even 2 1000 ++ uneven 2 1000 500 1000 ++ uneven 1 1000 500 1300 ++ uneven 2 1000 1000 1300 ++ even 2 1000)
     ⟶ events 2 (run (words 1 1 5 3 2000000 500 18000000 5 0 18000000 0 ++ words 3 3 7 3 13520000 1300 0 0 0 0 0 ++ nines 1))
     -- C39: the same, in the table
-    ∷ add (blank house) (even 2 1000 ++ uneven 2 1000 500 1000 ++ uneven 1 1000 500 1300 ++ uneven 2 1000 1000 1300
+    ∷ add (blank house 0) (even 2 1000 ++ uneven 2 1000 500 1000 ++ uneven 1 1000 500 1300 ++ uneven 2 1000 1000 1300
     ++ even 2 1000)
-    ⟶ taken (site (table house 8 2 6 0 (put 17 1 none) 0 1 0 1 18000000 0 18000000 0))
+    ⟶ taken (site (table house 0 8 2 6 0 (put 17 1 none) 0 1 0 1 18000000 0 18000000 0))
     -- C40: a sag with an interruption and a swell in it
     ∷ list house 34 (even 2 1000 ++ even 2 0 ++ uneven 2 0 0 1500 ++ even 2 1000)
     ⟶ events 3 (run (words 1 1 6 3 0 0 76000000 0 32000000 32000000 12000000 ++ words 2 2 3 3 0 0 0 0 0 0 0
     ++ words 3 4 6 3 18000000 1500 0 0 0 0 0 ++ nines 1))
     -- C41: the same, in the table
-    ∷ add (blank house) (even 2 1000 ++ even 2 0 ++ uneven 2 0 0 1500 ++ even 2 1000)
-    ⟶ taken (site (table house 7 2 5 0 (put 1 1 none) 0 1 1 1 76000000 32000000 32000000 12000000))
+    ∷ add (blank house 0) (even 2 1000 ++ even 2 0 ++ uneven 2 0 0 1500 ++ even 2 1000)
+    ⟶ taken (site (table house 0 7 2 5 0 (put 1 1 none) 0 1 1 1 76000000 32000000 32000000 12000000))
     ∷ []
 
 -- ---- on each mark, one unit of S above it and one below
@@ -562,14 +570,14 @@ gaps =
     ⟶ events 4 (run (words 1 1 4 1 0 0 60000000 0 20000000 20000000 20000000 ++ words 2 2 4 1 0 0 0 0 0 0 0
     ++ words 1 6 8 2 0 0 36000000 0 12000000 12000000 12000000 ++ words 2 6 7 2 0 0 0 0 0 0 0 ++ nines 1))
     -- C83: the same, in the table: two of each, the sags unplaced
-    ∷ add (blank house) (set (even 2 1000 ++ even 6 0 ++ even 2 1000) 65 lost)
-    ⟶ taken (site (table house 9 2 5 2 none 2 2 2 0 96000000 32000000 32000000 32000000))
+    ∷ add (blank house 0) (set (even 2 1000 ++ even 6 0 ++ even 2 1000) 65 lost)
+    ⟶ taken (site (table house 0 9 2 5 2 none 2 2 2 0 96000000 32000000 32000000 32000000))
     -- C84: a gap on channel b cuts a swell
     ∷ list house 23 (set (even 2 1000 ++ even 4 1300 ++ even 2 1000) 55 lost)
     ⟶ events 2 (run (words 3 1 3 1 13520000 1300 0 0 0 0 0 ++ words 3 5 6 2 10760000 1160 0 0 0 0 0 ++ nines 1))
     -- C85: the same, in the table
-    ∷ add (blank house) (set (even 2 1000 ++ even 4 1300 ++ even 2 1000) 55 lost)
-    ⟶ taken (site (table house 7 2 3 2 none 0 0 0 2 0 0 0 0))
+    ∷ add (blank house 0) (set (even 2 1000 ++ even 4 1300 ++ even 2 1000) 55 lost)
+    ⟶ taken (site (table house 0 7 2 3 2 none 0 0 0 2 0 0 0 0))
     -- C86: a gap in the block before a sag: its start is unseen
     ∷ list house 12 (set (even 2 1000 ++ uneven 2 1000 1000 500 ++ even 2 1000) 13 lost)
     ⟶ events 1 (run (words 1 2 4 2 2000000 500 9000000 6 0 0 9000000 ++ nines 1))
@@ -589,27 +597,27 @@ gaps =
     ∷ list house 12 (set (even 2 1000 ++ uneven 2 1000 1000 500 ++ even 3 1000) 73 lost)
     ⟶ events 1 (run (words 1 1 4 3 2000000 500 12000000 6 0 0 12000000 ++ nines 1))
     -- C92: the same, in the table: the sag has its cell, and one half-cycle is unknown
-    ∷ add (blank house) (set (even 2 1000 ++ uneven 2 1000 1000 500 ++ even 3 1000) 73 lost)
-    ⟶ taken (site (table house 6 2 3 1 (put 17 1 none) 0 1 0 0 12000000 0 0 12000000))
+    ∷ add (blank house 0) (set (even 2 1000 ++ uneven 2 1000 1000 500 ++ even 3 1000) 73 lost)
+    ⟶ taken (site (table house 0 6 2 3 1 (put 17 1 none) 0 1 0 0 12000000 0 0 12000000))
     -- C93: a sag whose start is unseen is unplaced
-    ∷ add (blank house) (set (even 2 1000 ++ uneven 2 1000 1000 500 ++ even 2 1000) 13 lost)
-    ⟶ taken (site (table house 5 1 2 2 none 1 1 0 0 9000000 0 0 9000000))
+    ∷ add (blank house 0) (set (even 2 1000 ++ uneven 2 1000 1000 500 ++ even 2 1000) 13 lost)
+    ⟶ taken (site (table house 0 5 1 2 2 none 1 1 0 0 9000000 0 0 9000000))
     -- C94: a sag whose end is unseen is unplaced
-    ∷ add (blank house) (set (even 2 1000 ++ uneven 2 1000 1000 500 ++ even 2 1000) 61 lost)
-    ⟶ taken (site (table house 5 1 3 1 none 1 1 0 0 12000000 0 0 12000000))
+    ∷ add (blank house 0) (set (even 2 1000 ++ uneven 2 1000 1000 500 ++ even 2 1000) 61 lost)
+    ⟶ taken (site (table house 0 5 1 3 1 none 1 1 0 0 12000000 0 0 12000000))
     -- C95: after a gap, 91 percent is no sag: nothing is carried over it
     ∷ list house 12 (set (even 2 1000 ++ even 1 500 ++ even 4 910 ++ even 2 1000) 48 lost)
     ⟶ events 1 (run (words 1 1 3 1 4312400 734 20062800 0 6687600 6687600 6687600 ++ nines 1))
     -- C96: the same, in the table
-    ∷ add (blank house) (set (even 2 1000 ++ even 1 500 ++ even 4 910 ++ even 2 1000) 48 lost)
-    ⟶ taken (site (table house 8 4 2 2 none 1 1 0 0 20062800 6687600 6687600 6687600))
+    ∷ add (blank house 0) (set (even 2 1000 ++ even 1 500 ++ even 4 910 ++ even 2 1000) 48 lost)
+    ⟶ taken (site (table house 0 8 4 2 2 none 1 1 0 0 20062800 6687600 6687600 6687600))
     -- C97: after a gap, 109 percent is no swell
     ∷ list house 12 (set (even 2 1000 ++ even 1 1500 ++ even 4 1090 ++ even 2 1000) 48 lost)
     ⟶ events 1 (run (words 3 1 3 1 13752400 1311 0 0 0 0 0 ++ nines 1))
     -- C98: one lost sample makes both half-cycles unknown: no event
     ∷ list house 1 (set (even 3 500) 16 lost) ⟶ events 0 (run (nines 1))
     -- C99: the same, in the table
-    ∷ add (blank house) (set (even 3 500) 16 lost) ⟶ taken (site (table house 2 0 0 2 none 0 0 0 0 0 0 0 0))
+    ∷ add (blank house 0) (set (even 3 500) 16 lost) ⟶ taken (site (table house 0 2 0 0 2 none 0 0 0 0 0 0 0 0))
     -- C100: the first sample of all lost
     ∷ list house 12 (set (even 4 500) 0 lost)
     ⟶ events 1 (run (words 1 1 3 0 2000000 500 36000000 0 12000000 12000000 12000000 ++ nines 1))
@@ -617,7 +625,8 @@ gaps =
     ∷ list wide 12 (set (even 4 500) 47 lost)
     ⟶ events 1 (run (words 1 0 2 0 2000000 500 36000000 0 12000000 12000000 12000000 ++ nines 1))
     -- C102: a gap at either end of a calm recording
-    ∷ add (blank wide) (set (set (even 6 1000) 8 lost) 70 lost) ⟶ taken (site (table wide 5 3 0 2 none 0 0 0 0 0 0 0 0))
+    ∷ add (blank wide 0) (set (set (even 6 1000) 8 lost) 70 lost)
+    ⟶ taken (site (table wide 0 5 3 0 2 none 0 0 0 0 0 0 0 0))
     ∷ []
 
 -- ---- sag types
@@ -764,47 +773,47 @@ nearest =
     ++ weave (quad 1 0 0 0) (quad 1 0 0 0) (quad 1 0 0 0) ++ even 2 1000)
     ⟶ events 2 (run (words 1 1 4 3 1 0 47999994 0 15999998 15999998 15999998 ++ words 2 2 3 3 1 0 0 0 0 0 0 ++ nines 1))
     -- C142: exactly 100.5: the half goes upward (severity 0.899, energy 0)
-    ∷ score house (event 1 7 9 3 80802 101 0 0 0 0 0) ⟶ scored 0x3fec_c49b_a5e3_53f8 0x0000_0000_0000_0000 9
+    ∷ score house 0 (event 1 7 9 3 80802 101 0 0 0 0 0) ⟶ scored 0x3fec_c49b_a5e3_53f8 0x0000_0000_0000_0000 9
     -- C143: and not downward
-    ∷ score house (event 1 7 9 3 80802 100 0 0 0 0 0) ⟶ unscored 5 40
+    ∷ score house 0 (event 1 7 9 3 80802 100 0 0 0 0 0) ⟶ unscored 5 40
     -- C144: one unit of S less (severity 0.9, energy 0)
-    ∷ score house (event 1 7 9 3 80801 100 0 0 0 0 0) ⟶ scored 0x3fec_cccc_cccc_cccd 0x0000_0000_0000_0000 9
+    ∷ score house 0 (event 1 7 9 3 80801 100 0 0 0 0 0) ⟶ scored 0x3fec_cccc_cccc_cccd 0x0000_0000_0000_0000 9
     -- C145: and not upward: the rest, 100.125 x N x R x R, is below the half, 100.25
-    ∷ score house (event 1 7 9 3 80801 101 0 0 0 0 0) ⟶ unscored 5 40
+    ∷ score house 0 (event 1 7 9 3 80801 101 0 0 0 0 0) ⟶ unscored 5 40
     -- C146: K7's extreme, 100.501 (severity 0.899, energy 0)
-    ∷ score house (event 1 7 9 3 80804 101 0 0 0 0 0) ⟶ scored 0x3fec_c49b_a5e3_53f8 0x0000_0000_0000_0000 9
+    ∷ score house 0 (event 1 7 9 3 80804 101 0 0 0 0 0) ⟶ scored 0x3fec_c49b_a5e3_53f8 0x0000_0000_0000_0000 9
     -- C147: and not the value rounded down
-    ∷ score house (event 1 7 9 3 80804 100 0 0 0 0 0) ⟶ unscored 5 40
+    ∷ score house 0 (event 1 7 9 3 80804 100 0 0 0 0 0) ⟶ unscored 5 40
     -- C148: exactly 1.5 (severity 0.998, energy 0)
-    ∷ score house (event 1 7 9 3 18 2 0 0 0 0 0) ⟶ scored 0x3fef_ef9d_b22d_0e56 0x0000_0000_0000_0000 1
+    ∷ score house 0 (event 1 7 9 3 18 2 0 0 0 0 0) ⟶ scored 0x3fef_ef9d_b22d_0e56 0x0000_0000_0000_0000 1
     -- C149: one unit less (severity 0.999, energy 0)
-    ∷ score house (event 1 7 9 3 17 1 0 0 0 0 0) ⟶ scored 0x3fef_f7ce_d916_872b 0x0000_0000_0000_0000 1
+    ∷ score house 0 (event 1 7 9 3 17 1 0 0 0 0 0) ⟶ scored 0x3fef_f7ce_d916_872b 0x0000_0000_0000_0000 1
     -- C150: exactly a half (severity 0.999, energy 0)
-    ∷ score house (event 1 7 9 3 2 1 0 0 0 0 0) ⟶ scored 0x3fef_f7ce_d916_872b 0x0000_0000_0000_0000 1
+    ∷ score house 0 (event 1 7 9 3 2 1 0 0 0 0 0) ⟶ scored 0x3fef_f7ce_d916_872b 0x0000_0000_0000_0000 1
     -- C151: one unit less (severity 1, energy 0)
-    ∷ score house (event 1 7 9 3 1 0 0 0 0 0 0) ⟶ scored 0x3ff0_0000_0000_0000 0x0000_0000_0000_0000 1
+    ∷ score house 0 (event 1 7 9 3 1 0 0 0 0 0 0) ⟶ scored 0x3ff0_0000_0000_0000 0x0000_0000_0000_0000 1
     -- C152: one unit below the sag threshold: still a sag, though retained is what the threshold is (severity 0.1, energy 0)
-    ∷ score house (event 1 7 9 3 6479999 900 0 0 0 0 0) ⟶ scored 0x3fb9_9999_9999_999a 0x0000_0000_0000_0000 33
+    ∷ score house 0 (event 1 7 9 3 6479999 900 0 0 0 0 0) ⟶ scored 0x3fb9_9999_9999_999a 0x0000_0000_0000_0000 33
     -- C153: and not the value rounded down
-    ∷ score house (event 1 7 9 3 6479999 899 0 0 0 0 0) ⟶ unscored 5 40
+    ∷ score house 0 (event 1 7 9 3 6479999 899 0 0 0 0 0) ⟶ unscored 5 40
     -- C154: a swell, exactly 1200.5
-    ∷ score house (event 3 7 9 3 11529602 1201 0 0 0 0 0) ⟶ unscored 4 40
+    ∷ score house 0 (event 3 7 9 3 11529602 1201 0 0 0 0 0) ⟶ unscored 4 40
     -- C155: and not the value rounded down
-    ∷ score house (event 3 7 9 3 11529602 1200 0 0 0 0 0) ⟶ unscored 5 40
+    ∷ score house 0 (event 3 7 9 3 11529602 1200 0 0 0 0 0) ⟶ unscored 5 40
     -- C156: one unit less
-    ∷ score house (event 3 7 9 3 11529601 1200 0 0 0 0 0) ⟶ unscored 4 40
+    ∷ score house 0 (event 3 7 9 3 11529601 1200 0 0 0 0 0) ⟶ unscored 4 40
     -- C157: N 10, R 1001: 100.5 is an S of 101204.6, and the whole number below it has 100 (severity 0.9, energy 0)
-    ∷ score ten (event 1 7 9 3 101204 100 0 0 0 0 0) ⟶ scored 0x3fec_cccc_cccc_cccd 0x0000_0000_0000_0000 9
+    ∷ score ten 0 (event 1 7 9 3 101204 100 0 0 0 0 0) ⟶ scored 0x3fec_cccc_cccc_cccd 0x0000_0000_0000_0000 9
     -- C158: the one above it 101 (severity 0.899, energy 0)
-    ∷ score ten (event 1 7 9 3 101205 101 0 0 0 0 0) ⟶ scored 0x3fec_c49b_a5e3_53f8 0x0000_0000_0000_0000 9
+    ∷ score ten 0 (event 1 7 9 3 101205 101 0 0 0 0 0) ⟶ scored 0x3fec_c49b_a5e3_53f8 0x0000_0000_0000_0000 9
     -- C159: N 512, R 50000: exactly 1999.5, where 4,000,000 x S is beyond 2^64
-    ∷ score (settings 512 50000 50 90 10 110 2) (event 3 7 9 3 5117440320000 2000 0 0 0 0 0) ⟶ unscored 4 40
+    ∷ score (settings 512 50000 50 90 10 110 2) 0 (event 3 7 9 3 5117440320000 2000 0 0 0 0 0) ⟶ unscored 4 40
     -- C160: one unit less
-    ∷ score (settings 512 50000 50 90 10 110 2) (event 3 7 9 3 5117440319999 1999 0 0 0 0 0) ⟶ unscored 4 40
+    ∷ score (settings 512 50000 50 90 10 110 2) 0 (event 3 7 9 3 5117440319999 1999 0 0 0 0 0) ⟶ unscored 4 40
     -- C161: and not upward
-    ∷ score (settings 512 50000 50 90 10 110 2) (event 3 7 9 3 5117440319999 2000 0 0 0 0 0) ⟶ unscored 5 40
+    ∷ score (settings 512 50000 50 90 10 110 2) 0 (event 3 7 9 3 5117440319999 2000 0 0 0 0 0) ⟶ unscored 5 40
     -- C162: the largest S of all
-    ∷ score (settings 512 50000 50 90 10 110 2) (event 3 7 9 3 5120000000000 2000 0 0 0 0 0) ⟶ unscored 4 40
+    ∷ score (settings 512 50000 50 90 10 110 2) 0 (event 3 7 9 3 5120000000000 2000 0 0 0 0 0) ⟶ unscored 4 40
     ∷ []
 
 -- ---- curve and columns on both sides of every border; the curve shows in the severity
@@ -812,124 +821,124 @@ nearest =
 durations : List Case
 durations =
     -- C163: f 50, h 1: below 2, column 0 (severity 0.8, energy 0.015)
-    score house (event 1 7 8 3 320000 200 12000000 4 12000000 0 0)
+    score house 0 (event 1 7 8 3 320000 200 12000000 4 12000000 0 0)
     ⟶ scored 0x3fe9_9999_9999_999a 0x3f8e_b851_eb85_1eb8 8
     -- C164: f 50, h 2: column 1; the curve is 0 (severity 0.8, energy 0.015)
-    ∷ score house (event 1 7 9 3 320000 200 12000000 4 12000000 0 0)
+    ∷ score house 0 (event 1 7 9 3 320000 200 12000000 4 12000000 0 0)
     ⟶ scored 0x3fe9_9999_9999_999a 0x3f8e_b851_eb85_1eb8 9
     -- C165: f 50, h 3: the curve is 500 (severity 1.6, energy 0.015)
-    ∷ score house (event 1 7 10 3 320000 200 12000000 4 12000000 0 0)
+    ∷ score house 0 (event 1 7 10 3 320000 200 12000000 4 12000000 0 0)
     ⟶ scored 0x3ff9_9999_9999_999a 0x3f8e_b851_eb85_1eb8 9
     -- C166: f 50, h 9: 5h below f, column 1 (severity 1.6, energy 0.015)
-    ∷ score house (event 1 7 16 3 320000 200 12000000 4 12000000 0 0)
+    ∷ score house 0 (event 1 7 16 3 320000 200 12000000 4 12000000 0 0)
     ⟶ scored 0x3ff9_9999_9999_999a 0x3f8e_b851_eb85_1eb8 9
     -- C167: f 50, h 10: 5h = f, column 2 (severity 1.6, energy 0.015)
-    ∷ score house (event 1 7 17 3 320000 200 12000000 4 12000000 0 0)
+    ∷ score house 0 (event 1 7 17 3 320000 200 12000000 4 12000000 0 0)
     ⟶ scored 0x3ff9_9999_9999_999a 0x3f8e_b851_eb85_1eb8 10
     -- C168: f 50, h 20: 5h = 2f, the curve is 500 (severity 1.6, energy 0.015)
-    ∷ score house (event 1 7 27 3 320000 200 12000000 4 12000000 0 0)
+    ∷ score house 0 (event 1 7 27 3 320000 200 12000000 4 12000000 0 0)
     ⟶ scored 0x3ff9_9999_9999_999a 0x3f8e_b851_eb85_1eb8 10
     -- C169: f 50, h 21: the curve is 700 (severity 2.6666666666666665, energy 0.015)
-    ∷ score house (event 1 7 28 3 320000 200 12000000 4 12000000 0 0)
+    ∷ score house 0 (event 1 7 28 3 320000 200 12000000 4 12000000 0 0)
     ⟶ scored 0x4005_5555_5555_5555 0x3f8e_b851_eb85_1eb8 10
     -- C170: f 50, h 49: below f, column 2 (severity 2.6666666666666665, energy 0.015)
-    ∷ score house (event 1 7 56 3 320000 200 12000000 4 12000000 0 0)
+    ∷ score house 0 (event 1 7 56 3 320000 200 12000000 4 12000000 0 0)
     ⟶ scored 0x4005_5555_5555_5555 0x3f8e_b851_eb85_1eb8 10
     -- C171: f 50, h 50: h = f, column 3; the curve is 700 (severity 2.6666666666666665, energy 0.015)
-    ∷ score house (event 1 7 57 3 320000 200 12000000 4 12000000 0 0)
+    ∷ score house 0 (event 1 7 57 3 320000 200 12000000 4 12000000 0 0)
     ⟶ scored 0x4005_5555_5555_5555 0x3f8e_b851_eb85_1eb8 11
     -- C172: f 50, h 51: the curve is 800 (severity 4, energy 0.015)
-    ∷ score house (event 1 7 58 3 320000 200 12000000 4 12000000 0 0)
+    ∷ score house 0 (event 1 7 58 3 320000 200 12000000 4 12000000 0 0)
     ⟶ scored 0x4010_0000_0000_0000 0x3f8e_b851_eb85_1eb8 11
     -- C173: f 50, h 99: below 2f, column 3 (severity 4, energy 0.015)
-    ∷ score house (event 1 7 106 3 320000 200 12000000 4 12000000 0 0)
+    ∷ score house 0 (event 1 7 106 3 320000 200 12000000 4 12000000 0 0)
     ⟶ scored 0x4010_0000_0000_0000 0x3f8e_b851_eb85_1eb8 11
     -- C174: f 50, h 100: h = 2f, column 4 (severity 4, energy 0.015)
-    ∷ score house (event 1 7 107 3 320000 200 12000000 4 12000000 0 0)
+    ∷ score house 0 (event 1 7 107 3 320000 200 12000000 4 12000000 0 0)
     ⟶ scored 0x4010_0000_0000_0000 0x3f8e_b851_eb85_1eb8 12
     -- C175: f 50, h 299: below 6f, column 4 (severity 4, energy 0.015)
-    ∷ score house (event 1 7 306 3 320000 200 12000000 4 12000000 0 0)
+    ∷ score house 0 (event 1 7 306 3 320000 200 12000000 4 12000000 0 0)
     ⟶ scored 0x4010_0000_0000_0000 0x3f8e_b851_eb85_1eb8 12
     -- C176: f 50, h 300: h = 6f, column 5 (severity 4, energy 0.015)
-    ∷ score house (event 1 7 307 3 320000 200 12000000 4 12000000 0 0)
+    ∷ score house 0 (event 1 7 307 3 320000 200 12000000 4 12000000 0 0)
     ⟶ scored 0x4010_0000_0000_0000 0x3f8e_b851_eb85_1eb8 13
     -- C177: f 50, h 1000: h = 20f, the curve is 800 (severity 4, energy 0.015)
-    ∷ score house (event 1 7 1007 3 320000 200 12000000 4 12000000 0 0)
+    ∷ score house 0 (event 1 7 1007 3 320000 200 12000000 4 12000000 0 0)
     ⟶ scored 0x4010_0000_0000_0000 0x3f8e_b851_eb85_1eb8 13
     -- C178: f 50, h 1001: the curve is 900 (severity 8, energy 0.015)
-    ∷ score house (event 1 7 1008 3 320000 200 12000000 4 12000000 0 0)
+    ∷ score house 0 (event 1 7 1008 3 320000 200 12000000 4 12000000 0 0)
     ⟶ scored 0x4020_0000_0000_0000 0x3f8e_b851_eb85_1eb8 13
     -- C179: f 50, h 1999: below 40f, column 5 (severity 8, energy 0.015)
-    ∷ score house (event 1 7 2006 3 320000 200 12000000 4 12000000 0 0)
+    ∷ score house 0 (event 1 7 2006 3 320000 200 12000000 4 12000000 0 0)
     ⟶ scored 0x4020_0000_0000_0000 0x3f8e_b851_eb85_1eb8 13
     -- C180: f 50, h 2000: h = 40f, column 6 (severity 8, energy 0.015)
-    ∷ score house (event 1 7 2007 3 320000 200 12000000 4 12000000 0 0)
+    ∷ score house 0 (event 1 7 2007 3 320000 200 12000000 4 12000000 0 0)
     ⟶ scored 0x4020_0000_0000_0000 0x3f8e_b851_eb85_1eb8 14
     -- C181: f 50, h 5999: below 120f, column 6 (severity 8, energy 0.015)
-    ∷ score house (event 1 7 6006 3 320000 200 12000000 4 12000000 0 0)
+    ∷ score house 0 (event 1 7 6006 3 320000 200 12000000 4 12000000 0 0)
     ⟶ scored 0x4020_0000_0000_0000 0x3f8e_b851_eb85_1eb8 14
     -- C182: f 50, h 6000: h = 120f, column 7 (severity 8, energy 0.015)
-    ∷ score house (event 1 7 6007 3 320000 200 12000000 4 12000000 0 0)
+    ∷ score house 0 (event 1 7 6007 3 320000 200 12000000 4 12000000 0 0)
     ⟶ scored 0x4020_0000_0000_0000 0x3f8e_b851_eb85_1eb8 15
     -- C183: f 60, h 1: below 2, column 0 (severity 0.8, energy 0.012)
-    ∷ score wide (event 1 7 8 3 320000 200 12000000 4 12000000 0 0)
+    ∷ score wide 0 (event 1 7 8 3 320000 200 12000000 4 12000000 0 0)
     ⟶ scored 0x3fe9_9999_9999_999a 0x3f88_9374_bc6a_7efa 8
     -- C184: f 60, h 2: column 1; the curve is 0 (severity 0.8, energy 0.012)
-    ∷ score wide (event 1 7 9 3 320000 200 12000000 4 12000000 0 0)
+    ∷ score wide 0 (event 1 7 9 3 320000 200 12000000 4 12000000 0 0)
     ⟶ scored 0x3fe9_9999_9999_999a 0x3f88_9374_bc6a_7efa 9
     -- C185: f 60, h 3: the curve is 500 (severity 1.6, energy 0.012)
-    ∷ score wide (event 1 7 10 3 320000 200 12000000 4 12000000 0 0)
+    ∷ score wide 0 (event 1 7 10 3 320000 200 12000000 4 12000000 0 0)
     ⟶ scored 0x3ff9_9999_9999_999a 0x3f88_9374_bc6a_7efa 9
     -- C186: f 60, h 11: 5h below f, column 1 (severity 1.6, energy 0.012)
-    ∷ score wide (event 1 7 18 3 320000 200 12000000 4 12000000 0 0)
+    ∷ score wide 0 (event 1 7 18 3 320000 200 12000000 4 12000000 0 0)
     ⟶ scored 0x3ff9_9999_9999_999a 0x3f88_9374_bc6a_7efa 9
     -- C187: f 60, h 12: 5h = f, column 2 (severity 1.6, energy 0.012)
-    ∷ score wide (event 1 7 19 3 320000 200 12000000 4 12000000 0 0)
+    ∷ score wide 0 (event 1 7 19 3 320000 200 12000000 4 12000000 0 0)
     ⟶ scored 0x3ff9_9999_9999_999a 0x3f88_9374_bc6a_7efa 10
     -- C188: f 60, h 24: 5h = 2f, the curve is 500 (severity 1.6, energy 0.012)
-    ∷ score wide (event 1 7 31 3 320000 200 12000000 4 12000000 0 0)
+    ∷ score wide 0 (event 1 7 31 3 320000 200 12000000 4 12000000 0 0)
     ⟶ scored 0x3ff9_9999_9999_999a 0x3f88_9374_bc6a_7efa 10
     -- C189: f 60, h 25: the curve is 700 (severity 2.6666666666666665, energy 0.012)
-    ∷ score wide (event 1 7 32 3 320000 200 12000000 4 12000000 0 0)
+    ∷ score wide 0 (event 1 7 32 3 320000 200 12000000 4 12000000 0 0)
     ⟶ scored 0x4005_5555_5555_5555 0x3f88_9374_bc6a_7efa 10
     -- C190: f 60, h 59: below f, column 2 (severity 2.6666666666666665, energy 0.012)
-    ∷ score wide (event 1 7 66 3 320000 200 12000000 4 12000000 0 0)
+    ∷ score wide 0 (event 1 7 66 3 320000 200 12000000 4 12000000 0 0)
     ⟶ scored 0x4005_5555_5555_5555 0x3f88_9374_bc6a_7efa 10
     -- C191: f 60, h 60: h = f, column 3; the curve is 700 (severity 2.6666666666666665, energy 0.012)
-    ∷ score wide (event 1 7 67 3 320000 200 12000000 4 12000000 0 0)
+    ∷ score wide 0 (event 1 7 67 3 320000 200 12000000 4 12000000 0 0)
     ⟶ scored 0x4005_5555_5555_5555 0x3f88_9374_bc6a_7efa 11
     -- C192: f 60, h 61: the curve is 800 (severity 4, energy 0.012)
-    ∷ score wide (event 1 7 68 3 320000 200 12000000 4 12000000 0 0)
+    ∷ score wide 0 (event 1 7 68 3 320000 200 12000000 4 12000000 0 0)
     ⟶ scored 0x4010_0000_0000_0000 0x3f88_9374_bc6a_7efa 11
     -- C193: f 60, h 119: below 2f, column 3 (severity 4, energy 0.012)
-    ∷ score wide (event 1 7 126 3 320000 200 12000000 4 12000000 0 0)
+    ∷ score wide 0 (event 1 7 126 3 320000 200 12000000 4 12000000 0 0)
     ⟶ scored 0x4010_0000_0000_0000 0x3f88_9374_bc6a_7efa 11
     -- C194: f 60, h 120: h = 2f, column 4 (severity 4, energy 0.012)
-    ∷ score wide (event 1 7 127 3 320000 200 12000000 4 12000000 0 0)
+    ∷ score wide 0 (event 1 7 127 3 320000 200 12000000 4 12000000 0 0)
     ⟶ scored 0x4010_0000_0000_0000 0x3f88_9374_bc6a_7efa 12
     -- C195: f 60, h 359: below 6f, column 4 (severity 4, energy 0.012)
-    ∷ score wide (event 1 7 366 3 320000 200 12000000 4 12000000 0 0)
+    ∷ score wide 0 (event 1 7 366 3 320000 200 12000000 4 12000000 0 0)
     ⟶ scored 0x4010_0000_0000_0000 0x3f88_9374_bc6a_7efa 12
     -- C196: f 60, h 360: h = 6f, column 5 (severity 4, energy 0.012)
-    ∷ score wide (event 1 7 367 3 320000 200 12000000 4 12000000 0 0)
+    ∷ score wide 0 (event 1 7 367 3 320000 200 12000000 4 12000000 0 0)
     ⟶ scored 0x4010_0000_0000_0000 0x3f88_9374_bc6a_7efa 13
     -- C197: f 60, h 1200: h = 20f, the curve is 800 (severity 4, energy 0.012)
-    ∷ score wide (event 1 7 1207 3 320000 200 12000000 4 12000000 0 0)
+    ∷ score wide 0 (event 1 7 1207 3 320000 200 12000000 4 12000000 0 0)
     ⟶ scored 0x4010_0000_0000_0000 0x3f88_9374_bc6a_7efa 13
     -- C198: f 60, h 1201: the curve is 900 (severity 8, energy 0.012)
-    ∷ score wide (event 1 7 1208 3 320000 200 12000000 4 12000000 0 0)
+    ∷ score wide 0 (event 1 7 1208 3 320000 200 12000000 4 12000000 0 0)
     ⟶ scored 0x4020_0000_0000_0000 0x3f88_9374_bc6a_7efa 13
     -- C199: f 60, h 2399: below 40f, column 5 (severity 8, energy 0.012)
-    ∷ score wide (event 1 7 2406 3 320000 200 12000000 4 12000000 0 0)
+    ∷ score wide 0 (event 1 7 2406 3 320000 200 12000000 4 12000000 0 0)
     ⟶ scored 0x4020_0000_0000_0000 0x3f88_9374_bc6a_7efa 13
     -- C200: f 60, h 2400: h = 40f, column 6 (severity 8, energy 0.012)
-    ∷ score wide (event 1 7 2407 3 320000 200 12000000 4 12000000 0 0)
+    ∷ score wide 0 (event 1 7 2407 3 320000 200 12000000 4 12000000 0 0)
     ⟶ scored 0x4020_0000_0000_0000 0x3f88_9374_bc6a_7efa 14
     -- C201: f 60, h 7199: below 120f, column 6 (severity 8, energy 0.012)
-    ∷ score wide (event 1 7 7206 3 320000 200 12000000 4 12000000 0 0)
+    ∷ score wide 0 (event 1 7 7206 3 320000 200 12000000 4 12000000 0 0)
     ⟶ scored 0x4020_0000_0000_0000 0x3f88_9374_bc6a_7efa 14
     -- C202: f 60, h 7200: h = 120f, column 7 (severity 8, energy 0.012)
-    ∷ score wide (event 1 7 7207 3 320000 200 12000000 4 12000000 0 0)
+    ∷ score wide 0 (event 1 7 7207 3 320000 200 12000000 4 12000000 0 0)
     ⟶ scored 0x4020_0000_0000_0000 0x3f88_9374_bc6a_7efa 15
     ∷ []
 
@@ -938,33 +947,33 @@ durations =
 depths : List Case
 depths =
     -- C203: nothing left: row 0 (severity 1, energy 0)
-    score house (event 1 7 9 3 0 0 1 4 1 0 0) ⟶ scored 0x3ff0_0000_0000_0000 0x0000_0000_0000_0000 1
+    score house 0 (event 1 7 9 3 0 0 1 4 1 0 0) ⟶ scored 0x3ff0_0000_0000_0000 0x0000_0000_0000_0000 1
     -- C204: exactly 10 percent: row 0 (severity 0.9, energy 0)
-    ∷ score house (event 1 7 9 3 80000 100 1 4 1 0 0) ⟶ scored 0x3fec_cccc_cccc_cccd 0x0000_0000_0000_0000 1
+    ∷ score house 0 (event 1 7 9 3 80000 100 1 4 1 0 0) ⟶ scored 0x3fec_cccc_cccc_cccd 0x0000_0000_0000_0000 1
     -- C205: one unit above: row 1 (severity 0.9, energy 0)
-    ∷ score house (event 1 7 9 3 80001 100 1 4 1 0 0) ⟶ scored 0x3fec_cccc_cccc_cccd 0x0000_0000_0000_0000 9
+    ∷ score house 0 (event 1 7 9 3 80001 100 1 4 1 0 0) ⟶ scored 0x3fec_cccc_cccc_cccd 0x0000_0000_0000_0000 9
     -- C206: exactly 40 percent: row 1 (severity 0.6, energy 0)
-    ∷ score house (event 1 7 9 3 1280000 400 1 4 1 0 0) ⟶ scored 0x3fe3_3333_3333_3333 0x0000_0000_0000_0000 9
+    ∷ score house 0 (event 1 7 9 3 1280000 400 1 4 1 0 0) ⟶ scored 0x3fe3_3333_3333_3333 0x0000_0000_0000_0000 9
     -- C207: one unit above: row 2 (severity 0.6, energy 0)
-    ∷ score house (event 1 7 9 3 1280001 400 1 4 1 0 0) ⟶ scored 0x3fe3_3333_3333_3333 0x0000_0000_0000_0000 17
+    ∷ score house 0 (event 1 7 9 3 1280001 400 1 4 1 0 0) ⟶ scored 0x3fe3_3333_3333_3333 0x0000_0000_0000_0000 17
     -- C208: exactly 70 percent: row 2 (severity 0.3, energy 0)
-    ∷ score house (event 1 7 9 3 3920000 700 1 4 1 0 0) ⟶ scored 0x3fd3_3333_3333_3333 0x0000_0000_0000_0000 17
+    ∷ score house 0 (event 1 7 9 3 3920000 700 1 4 1 0 0) ⟶ scored 0x3fd3_3333_3333_3333 0x0000_0000_0000_0000 17
     -- C209: one unit above: row 3 (severity 0.3, energy 0)
-    ∷ score house (event 1 7 9 3 3920001 700 1 4 1 0 0) ⟶ scored 0x3fd3_3333_3333_3333 0x0000_0000_0000_0000 25
+    ∷ score house 0 (event 1 7 9 3 3920001 700 1 4 1 0 0) ⟶ scored 0x3fd3_3333_3333_3333 0x0000_0000_0000_0000 25
     -- C210: exactly 85 percent: row 3 (severity 0.15, energy 0)
-    ∷ score house (event 1 7 9 3 5780000 850 1 4 1 0 0) ⟶ scored 0x3fc3_3333_3333_3333 0x0000_0000_0000_0000 25
+    ∷ score house 0 (event 1 7 9 3 5780000 850 1 4 1 0 0) ⟶ scored 0x3fc3_3333_3333_3333 0x0000_0000_0000_0000 25
     -- C211: one unit above: row 4 (severity 0.15, energy 0)
-    ∷ score house (event 1 7 9 3 5780001 850 1 4 1 0 0) ⟶ scored 0x3fc3_3333_3333_3333 0x0000_0000_0000_0000 33
+    ∷ score house 0 (event 1 7 9 3 5780001 850 1 4 1 0 0) ⟶ scored 0x3fc3_3333_3333_3333 0x0000_0000_0000_0000 33
     -- C212: one unit below the sag threshold: row 4 (severity 0.1, energy 0)
-    ∷ score house (event 1 7 9 3 6479999 900 1 4 1 0 0) ⟶ scored 0x3fb9_9999_9999_999a 0x0000_0000_0000_0000 33
+    ∷ score house 0 (event 1 7 9 3 6479999 900 1 4 1 0 0) ⟶ scored 0x3fb9_9999_9999_999a 0x0000_0000_0000_0000 33
     -- C213: 10 percent is an S of 100200.1, and the whole number below it in row 0 (severity 0.9, energy 0)
-    ∷ score ten (event 1 7 9 3 100200 100 1 4 1 0 0) ⟶ scored 0x3fec_cccc_cccc_cccd 0x0000_0000_0000_0000 1
+    ∷ score ten 0 (event 1 7 9 3 100200 100 1 4 1 0 0) ⟶ scored 0x3fec_cccc_cccc_cccd 0x0000_0000_0000_0000 1
     -- C214: the one above it in row 1 (severity 0.9, energy 0)
-    ∷ score ten (event 1 7 9 3 100201 100 1 4 1 0 0) ⟶ scored 0x3fec_cccc_cccc_cccd 0x0000_0000_0000_0000 9
+    ∷ score ten 0 (event 1 7 9 3 100201 100 1 4 1 0 0) ⟶ scored 0x3fec_cccc_cccc_cccd 0x0000_0000_0000_0000 9
     -- C215: 70 percent is an S of 4909804.9, and the whole number below it in row 2 (severity 0.3, energy 0)
-    ∷ score ten (event 1 7 9 3 4909804 700 1 4 1 0 0) ⟶ scored 0x3fd3_3333_3333_3333 0x0000_0000_0000_0000 17
+    ∷ score ten 0 (event 1 7 9 3 4909804 700 1 4 1 0 0) ⟶ scored 0x3fd3_3333_3333_3333 0x0000_0000_0000_0000 17
     -- C216: the one above it in row 3 (severity 0.3, energy 0)
-    ∷ score ten (event 1 7 9 3 4909805 700 1 4 1 0 0) ⟶ scored 0x3fd3_3333_3333_3333 0x0000_0000_0000_0000 25
+    ∷ score ten 0 (event 1 7 9 3 4909805 700 1 4 1 0 0) ⟶ scored 0x3fd3_3333_3333_3333 0x0000_0000_0000_0000 25
     ∷ []
 
 -- ---- energies: whole milliseconds, rounded down
@@ -972,33 +981,33 @@ depths =
 energies : List Case
 energies =
     -- C217: no shortfall (severity 1, energy 0)
-    score house (event 1 7 10 3 2000000 500 0 4 0 0 0) ⟶ scored 0x3ff0_0000_0000_0000 0x0000_0000_0000_0000 17
+    score house 0 (event 1 7 10 3 2000000 500 0 4 0 0 0) ⟶ scored 0x3ff0_0000_0000_0000 0x0000_0000_0000_0000 17
     -- C218: one unit short of a millisecond: 0 (severity 1, energy 0)
-    ∷ score house (event 1 7 10 3 2000000 500 799999 4 799999 0 0)
+    ∷ score house 0 (event 1 7 10 3 2000000 500 799999 4 799999 0 0)
     ⟶ scored 0x3ff0_0000_0000_0000 0x0000_0000_0000_0000 17
     -- C219: a millisecond (severity 1, energy 0.001)
-    ∷ score house (event 1 7 10 3 2000000 500 800000 4 800000 0 0)
+    ∷ score house 0 (event 1 7 10 3 2000000 500 800000 4 800000 0 0)
     ⟶ scored 0x3ff0_0000_0000_0000 0x3f50_624d_d2f1_a9fc 17
     -- C220: one unit short of two: 1 (severity 1, energy 0.001)
-    ∷ score house (event 1 7 10 3 2000000 500 1599999 4 1599999 0 0)
+    ∷ score house 0 (event 1 7 10 3 2000000 500 1599999 4 1599999 0 0)
     ⟶ scored 0x3ff0_0000_0000_0000 0x3f50_624d_d2f1_a9fc 17
     -- C221: the most that three half-cycles can lack (severity 1, energy 0.09)
-    ∷ score house (event 1 7 10 3 2000000 500 72000000 4 72000000 0 0)
+    ∷ score house 0 (event 1 7 10 3 2000000 500 72000000 4 72000000 0 0)
     ⟶ scored 0x3ff0_0000_0000_0000 0x3fb7_0a3d_70a3_d70a 17
     -- C222: f 60: one unit short of a millisecond (severity 1, energy 0)
-    ∷ score wide (event 1 7 10 3 2000000 500 959999 4 959999 0 0)
+    ∷ score wide 0 (event 1 7 10 3 2000000 500 959999 4 959999 0 0)
     ⟶ scored 0x3ff0_0000_0000_0000 0x0000_0000_0000_0000 17
     -- C223: f 60: a millisecond (severity 1, energy 0.001)
-    ∷ score wide (event 1 7 10 3 2000000 500 960000 4 960000 0 0)
+    ∷ score wide 0 (event 1 7 10 3 2000000 500 960000 4 960000 0 0)
     ⟶ scored 0x3ff0_0000_0000_0000 0x3f50_624d_d2f1_a9fc 17
     -- C224: N 10, R 1001, f 60: 7 milliseconds are 8416808.4, the whole number below is 6 (severity 1.106, energy 0.006)
-    ∷ score ten (event 1 7 10 3 2000000 447 8416808 4 8416808 0 0)
+    ∷ score ten 0 (event 1 7 10 3 2000000 447 8416808 4 8416808 0 0)
     ⟶ scored 0x3ff1_b22d_0e56_0419 0x3f78_9374_bc6a_7efa 17
     -- C225: the one above is 7 (severity 1.106, energy 0.007)
-    ∷ score ten (event 1 7 10 3 2000000 447 8416809 4 8416809 0 0)
+    ∷ score ten 0 (event 1 7 10 3 2000000 447 8416809 4 8416809 0 0)
     ⟶ scored 0x3ff1_b22d_0e56_0419 0x3f7c_ac08_3126_e979 17
     -- C226: the longest and deepest sag of all: 3000 s (severity 10, energy 3000)
-    ∷ score house (event 1 0 100000 3 0 0 2400000000000 0 800000000000 800000000000 800000000000)
+    ∷ score house 0 (event 1 0 100000 3 0 0 2400000000000 0 800000000000 800000000000 800000000000)
     ⟶ scored 0x4024_0000_0000_0000 0x40a7_7000_0000_0000 7
     ∷ []
 
@@ -1007,94 +1016,94 @@ energies =
 not-events : List Case
 not-events =
     -- C227: kind 0
-    score house (event 0 7 9 3 20000 50 0 0 0 0 0) ⟶ unscored 5 40
+    score house 0 (event 0 7 9 3 20000 50 0 0 0 0 0) ⟶ unscored 5 40
     -- C228: kind 1, and all else as it must be (severity 0.5, energy 0.015)
-    ∷ score house (event 1 30 32 3 2000000 500 12000000 4 7000000 4000000 1000000)
+    ∷ score house 0 (event 1 30 32 3 2000000 500 12000000 4 7000000 4000000 1000000)
     ⟶ scored 0x3fe0_0000_0000_0000 0x3f8e_b851_eb85_1eb8 17
     -- C229: kind 2: not a sag
-    ∷ score house (event 2 7 9 3 20000 50 0 0 0 0 0) ⟶ unscored 4 40
+    ∷ score house 0 (event 2 7 9 3 20000 50 0 0 0 0 0) ⟶ unscored 4 40
     -- C230: kind 3: not a sag
-    ∷ score house (event 3 7 9 3 9680001 1100 0 0 0 0 0) ⟶ unscored 4 40
+    ∷ score house 0 (event 3 7 9 3 9680001 1100 0 0 0 0 0) ⟶ unscored 4 40
     -- C231: kind 4
-    ∷ score house (event 4 7 9 3 9680001 1100 0 0 0 0 0) ⟶ unscored 5 40
+    ∷ score house 0 (event 4 7 9 3 9680001 1100 0 0 0 0 0) ⟶ unscored 5 40
     -- C232: start one below end (severity 0.5, energy 0.015)
-    ∷ score house (event 1 31 32 3 2000000 500 12000000 4 7000000 4000000 1000000)
+    ∷ score house 0 (event 1 31 32 3 2000000 500 12000000 4 7000000 4000000 1000000)
     ⟶ scored 0x3fe0_0000_0000_0000 0x3f8e_b851_eb85_1eb8 16
     -- C233: start at end
-    ∷ score house (event 1 32 32 3 2000000 500 0 4 0 0 0) ⟶ unscored 5 40
+    ∷ score house 0 (event 1 32 32 3 2000000 500 0 4 0 0 0) ⟶ unscored 5 40
     -- C234: start above end
-    ∷ score house (event 1 33 32 3 2000000 500 0 4 0 0 0) ⟶ unscored 5 40
+    ∷ score house 0 (event 1 33 32 3 2000000 500 0 4 0 0 0) ⟶ unscored 5 40
     -- C235: start at end, of an interruption
-    ∷ score house (event 2 9 9 3 20000 50 0 0 0 0 0) ⟶ unscored 5 40
+    ∷ score house 0 (event 2 9 9 3 20000 50 0 0 0 0 0) ⟶ unscored 5 40
     -- C236: end 100,000 (severity 0.5, energy 0.015)
-    ∷ score house (event 1 99998 100000 3 2000000 500 12000000 4 7000000 4000000 1000000)
+    ∷ score house 0 (event 1 99998 100000 3 2000000 500 12000000 4 7000000 4000000 1000000)
     ⟶ scored 0x3fe0_0000_0000_0000 0x3f8e_b851_eb85_1eb8 17
     -- C237: end 100,001
-    ∷ score house (event 1 99999 100001 3 2000000 500 12000000 4 7000000 4000000 1000000) ⟶ unscored 5 40
+    ∷ score house 0 (event 1 99999 100001 3 2000000 500 12000000 4 7000000 4000000 1000000) ⟶ unscored 5 40
     -- C238: seen 4
-    ∷ score house (event 1 30 32 4 2000000 500 12000000 4 7000000 4000000 1000000) ⟶ unscored 5 40
+    ∷ score house 0 (event 1 30 32 4 2000000 500 12000000 4 7000000 4000000 1000000) ⟶ unscored 5 40
     -- C239: retained one more than that of the extreme
-    ∷ score house (event 1 30 32 3 2000000 501 12000000 4 7000000 4000000 1000000) ⟶ unscored 5 40
+    ∷ score house 0 (event 1 30 32 3 2000000 501 12000000 4 7000000 4000000 1000000) ⟶ unscored 5 40
     -- C240: one less
-    ∷ score house (event 1 30 32 3 2000000 499 12000000 4 7000000 4000000 1000000) ⟶ unscored 5 40
+    ∷ score house 0 (event 1 30 32 3 2000000 499 12000000 4 7000000 4000000 1000000) ⟶ unscored 5 40
     -- C241: the smallest S with retained 500 (severity 0.5, energy 0.015)
-    ∷ score house (event 1 30 32 3 1996002 500 12000000 4 7000000 4000000 1000000)
+    ∷ score house 0 (event 1 30 32 3 1996002 500 12000000 4 7000000 4000000 1000000)
     ⟶ scored 0x3fe0_0000_0000_0000 0x3f8e_b851_eb85_1eb8 17
     -- C242: one unit of S less
-    ∷ score house (event 1 30 32 3 1996001 500 12000000 4 7000000 4000000 1000000) ⟶ unscored 5 40
+    ∷ score house 0 (event 1 30 32 3 1996001 500 12000000 4 7000000 4000000 1000000) ⟶ unscored 5 40
     -- C243: the largest S with retained 500 (severity 0.5, energy 0.015)
-    ∷ score house (event 1 30 32 3 2004001 500 12000000 4 7000000 4000000 1000000)
+    ∷ score house 0 (event 1 30 32 3 2004001 500 12000000 4 7000000 4000000 1000000)
     ⟶ scored 0x3fe0_0000_0000_0000 0x3f8e_b851_eb85_1eb8 17
     -- C244: one unit more
-    ∷ score house (event 1 30 32 3 2004002 500 12000000 4 7000000 4000000 1000000) ⟶ unscored 5 40
+    ∷ score house 0 (event 1 30 32 3 2004002 500 12000000 4 7000000 4000000 1000000) ⟶ unscored 5 40
     -- C245: a sag's extreme one unit below the threshold (severity 0.1, energy 0.015)
-    ∷ score house (event 1 30 32 3 6479999 900 12000000 4 7000000 4000000 1000000)
+    ∷ score house 0 (event 1 30 32 3 6479999 900 12000000 4 7000000 4000000 1000000)
     ⟶ scored 0x3fb9_9999_9999_999a 0x3f8e_b851_eb85_1eb8 33
     -- C246: on it
-    ∷ score house (event 1 30 32 3 6480000 900 12000000 4 7000000 4000000 1000000) ⟶ unscored 5 40
+    ∷ score house 0 (event 1 30 32 3 6480000 900 12000000 4 7000000 4000000 1000000) ⟶ unscored 5 40
     -- C247: a sag's shortfall 3 x N x R x R x h (severity 0.5, energy 0.06)
-    ∷ score house (event 1 30 32 3 2000000 500 48000000 4 16000000 16000000 16000000)
+    ∷ score house 0 (event 1 30 32 3 2000000 500 48000000 4 16000000 16000000 16000000)
     ⟶ scored 0x3fe0_0000_0000_0000 0x3fae_b851_eb85_1eb8 17
     -- C248: one more
-    ∷ score house (event 1 30 32 3 2000000 500 48000001 4 16000000 16000000 16000001) ⟶ unscored 5 40
+    ∷ score house 0 (event 1 30 32 3 2000000 500 48000001 4 16000000 16000000 16000001) ⟶ unscored 5 40
     -- C249: type 6 (severity 0.5, energy 0.015)
-    ∷ score house (event 1 30 32 3 2000000 500 12000000 6 7000000 4000000 1000000)
+    ∷ score house 0 (event 1 30 32 3 2000000 500 12000000 6 7000000 4000000 1000000)
     ⟶ scored 0x3fe0_0000_0000_0000 0x3f8e_b851_eb85_1eb8 17
     -- C250: type 7
-    ∷ score house (event 1 30 32 3 2000000 500 12000000 7 7000000 4000000 1000000) ⟶ unscored 5 40
+    ∷ score house 0 (event 1 30 32 3 2000000 500 12000000 7 7000000 4000000 1000000) ⟶ unscored 5 40
     -- C251: a swell with a shortfall, a's
-    ∷ score house (event 3 7 9 3 9680001 1100 1 0 1 0 0) ⟶ unscored 5 40
+    ∷ score house 0 (event 3 7 9 3 9680001 1100 1 0 1 0 0) ⟶ unscored 5 40
     -- C252: a swell with a type
-    ∷ score house (event 3 7 9 3 9680001 1100 0 1 0 0 0) ⟶ unscored 5 40
+    ∷ score house 0 (event 3 7 9 3 9680001 1100 0 1 0 0 0) ⟶ unscored 5 40
     -- C253: an interruption with a shortfall, c's
-    ∷ score house (event 2 7 9 3 20000 50 1 0 0 0 1) ⟶ unscored 5 40
+    ∷ score house 0 (event 2 7 9 3 20000 50 1 0 0 0 1) ⟶ unscored 5 40
     -- C254: an interruption with a type
-    ∷ score house (event 2 7 9 3 20000 50 0 1 0 0 0) ⟶ unscored 5 40
+    ∷ score house 0 (event 2 7 9 3 20000 50 0 1 0 0 0) ⟶ unscored 5 40
     -- C255: extreme N x 10,000,000,000
-    ∷ score high (event 3 7 9 3 80000000000 2000 0 0 0 0 0) ⟶ unscored 4 40
+    ∷ score high 0 (event 3 7 9 3 80000000000 2000 0 0 0 0 0) ⟶ unscored 4 40
     -- C256: one more
-    ∷ score high (event 3 7 9 3 80000000001 2000 0 0 0 0 0) ⟶ unscored 5 40
+    ∷ score high 0 (event 3 7 9 3 80000000001 2000 0 0 0 0 0) ⟶ unscored 5 40
     -- C257: only the start unseen
-    ∷ score house (event 1 30 32 2 2000000 500 12000000 4 7000000 4000000 1000000) ⟶ unscored 1 40
+    ∷ score house 0 (event 1 30 32 2 2000000 500 12000000 4 7000000 4000000 1000000) ⟶ unscored 1 40
     -- C258: only the end unseen
-    ∷ score house (event 1 30 32 1 2000000 500 12000000 4 7000000 4000000 1000000) ⟶ unscored 2 40
+    ∷ score house 0 (event 1 30 32 1 2000000 500 12000000 4 7000000 4000000 1000000) ⟶ unscored 2 40
     -- C259: both unseen
-    ∷ score house (event 1 30 32 0 2000000 500 12000000 4 7000000 4000000 1000000) ⟶ unscored 3 40
+    ∷ score house 0 (event 1 30 32 0 2000000 500 12000000 4 7000000 4000000 1000000) ⟶ unscored 3 40
     -- C260: a swell with both unseen: not a sag
-    ∷ score house (event 3 7 9 0 9680001 1100 0 0 0 0 0) ⟶ unscored 4 40
+    ∷ score house 0 (event 3 7 9 0 9680001 1100 0 0 0 0 0) ⟶ unscored 4 40
     -- C261: an interruption with its end unseen: not a sag
-    ∷ score house (event 2 7 9 1 20000 50 0 0 0 0 0) ⟶ unscored 4 40
+    ∷ score house 0 (event 2 7 9 1 20000 50 0 0 0 0 0) ⟶ unscored 4 40
     -- C262: a swell with a type and both unseen: not an event
-    ∷ score house (event 3 7 9 0 9680001 1100 0 1 0 0 0) ⟶ unscored 5 40
+    ∷ score house 0 (event 3 7 9 0 9680001 1100 0 1 0 0 0) ⟶ unscored 5 40
     -- C263: a sag of type 7, its start unseen: not an event
-    ∷ score house (event 1 30 32 2 2000000 500 12000000 7 7000000 4000000 1000000) ⟶ unscored 5 40
+    ∷ score house 0 (event 1 30 32 2 2000000 500 12000000 7 7000000 4000000 1000000) ⟶ unscored 5 40
     -- C264: N 9 and kind 0: settings bad
-    ∷ score (settings 9 1000 50 90 10 110 2) (event 0 30 32 3 2000000 500 12000000 4 7000000 4000000 1000000)
+    ∷ score (settings 9 1000 50 90 10 110 2) 0 (event 0 30 32 3 2000000 500 12000000 4 7000000 4000000 1000000)
     ⟶ unscored 6 40
     -- C265: N 9 and a swell: settings bad
-    ∷ score (settings 9 1000 50 90 10 110 2) (event 3 7 9 0 9680001 1100 0 0 0 0 0) ⟶ unscored 6 40
+    ∷ score (settings 9 1000 50 90 10 110 2) 0 (event 3 7 9 0 9680001 1100 0 0 0 0 0) ⟶ unscored 6 40
     -- C266: N 9 and a sag with both unseen: settings bad
-    ∷ score (settings 9 1000 50 90 10 110 2) (event 1 30 32 0 2000000 500 12000000 4 7000000 4000000 1000000)
+    ∷ score (settings 9 1000 50 90 10 110 2) 0 (event 1 30 32 0 2000000 500 12000000 4 7000000 4000000 1000000)
     ⟶ unscored 6 40
     ∷ []
 
@@ -1103,31 +1112,31 @@ not-events =
 parts-of-events : List Case
 parts-of-events =
     -- C267: any three parts that make it up will do: all of it c's (severity 0.5, energy 0.015)
-    score house (event 1 30 32 3 2000000 500 12000000 4 0 0 12000000)
+    score house 0 (event 1 30 32 3 2000000 500 12000000 4 0 0 12000000)
     ⟶ scored 0x3fe0_0000_0000_0000 0x3f8e_b851_eb85_1eb8 17
     -- C268: a sag's part a one too large
-    ∷ score house (event 1 30 32 3 2000000 500 12000000 4 7000001 4000000 1000000) ⟶ unscored 5 40
+    ∷ score house 0 (event 1 30 32 3 2000000 500 12000000 4 7000001 4000000 1000000) ⟶ unscored 5 40
     -- C269: part b one too small
-    ∷ score house (event 1 30 32 3 2000000 500 12000000 4 7000000 3999999 1000000) ⟶ unscored 5 40
+    ∷ score house 0 (event 1 30 32 3 2000000 500 12000000 4 7000000 3999999 1000000) ⟶ unscored 5 40
     -- C270: part c one too large and both ends unseen: 5 before 3
-    ∷ score house (event 1 30 32 0 2000000 500 12000000 4 7000000 4000000 1000001) ⟶ unscored 5 40
+    ∷ score house 0 (event 1 30 32 0 2000000 500 12000000 4 7000000 4000000 1000001) ⟶ unscored 5 40
     -- C271: an interruption with a part for a and no shortfall: 5 before 4
-    ∷ score house (event 2 7 9 3 20000 50 0 0 1 0 0) ⟶ unscored 5 40
+    ∷ score house 0 (event 2 7 9 3 20000 50 0 0 1 0 0) ⟶ unscored 5 40
     -- C272: for b
-    ∷ score house (event 2 7 9 3 20000 50 0 0 0 1 0) ⟶ unscored 5 40
+    ∷ score house 0 (event 2 7 9 3 20000 50 0 0 0 1 0) ⟶ unscored 5 40
     -- C273: for c
-    ∷ score house (event 2 7 9 3 20000 50 0 0 0 0 1) ⟶ unscored 5 40
+    ∷ score house 0 (event 2 7 9 3 20000 50 0 0 0 0 1) ⟶ unscored 5 40
     -- C274: a swell with a part for a
-    ∷ score house (event 3 7 9 3 9680001 1100 0 0 1 0 0) ⟶ unscored 5 40
+    ∷ score house 0 (event 3 7 9 3 9680001 1100 0 0 1 0 0) ⟶ unscored 5 40
     -- C275: for b
-    ∷ score house (event 3 7 9 3 9680001 1100 0 0 0 1 0) ⟶ unscored 5 40
+    ∷ score house 0 (event 3 7 9 3 9680001 1100 0 0 0 1 0) ⟶ unscored 5 40
     -- C276: for c
-    ∷ score house (event 3 7 9 3 9680001 1100 0 0 0 0 1) ⟶ unscored 5 40
+    ∷ score house 0 (event 3 7 9 3 9680001 1100 0 0 0 0 1) ⟶ unscored 5 40
     -- C277: a sag's parts that only make up the shortfall if the sum wraps round at 2^64
-    ∷ score house (event 1 30 32 3 2000000 500 12000000 4 9223372036854775808 9223372036854775808 12000000)
+    ∷ score house 0 (event 1 30 32 3 2000000 500 12000000 4 9223372036854775808 9223372036854775808 12000000)
     ⟶ unscored 5 40
     -- C278: a swell's
-    ∷ score house (event 3 7 9 3 9680001 1100 0 0 9223372036854775808 9223372036854775808 0) ⟶ unscored 5 40
+    ∷ score house 0 (event 3 7 9 3 9680001 1100 0 0 9223372036854775808 9223372036854775808 0) ⟶ unscored 5 40
     ∷ []
 
 -- ---- fresh tables; where a setting is bad, zeros
@@ -1135,69 +1144,69 @@ parts-of-events =
 making : List Case
 making =
     -- C279: each setting at the lower end of its range: a fresh table
-    fresh (settings 8 1000 50 50 1 105 0) ⟶ taken (site (blank (settings 8 1000 50 50 1 105 0)))
+    fresh (settings 8 1000 50 50 1 105 0) 0 ⟶ taken (site (blank (settings 8 1000 50 50 1 105 0) 0))
     -- C280: each at the upper end
-    ∷ fresh (settings 512 50000 60 95 20 150 5) ⟶ taken (site (blank (settings 512 50000 60 95 20 150 5)))
+    ∷ fresh (settings 512 50000 60 95 20 150 5) 0 ⟶ taken (site (blank (settings 512 50000 60 95 20 150 5) 0))
     -- C281: within
-    ∷ fresh (settings 10 1000 50 51 10 110 2) ⟶ taken (site (blank (settings 10 1000 50 51 10 110 2)))
+    ∷ fresh (settings 10 1000 50 51 10 110 2) 0 ⟶ taken (site (blank (settings 10 1000 50 51 10 110 2) 0))
     -- C282: N 7
-    ∷ fresh (settings 7 1000 50 50 1 105 0) ⟶ refused 1 1 (site (blank (settings 0 0 0 0 0 0 0)))
+    ∷ fresh (settings 7 1000 50 50 1 105 0) 0 ⟶ refused 1 1 (site (blank (settings 0 0 0 0 0 0 0) 0))
     -- C283: N 6, even
-    ∷ fresh (settings 6 1000 50 50 1 105 0) ⟶ refused 1 1 (site (blank (settings 0 0 0 0 0 0 0)))
+    ∷ fresh (settings 6 1000 50 50 1 105 0) 0 ⟶ refused 1 1 (site (blank (settings 0 0 0 0 0 0 0) 0))
     -- C284: N 9, odd
-    ∷ fresh (settings 9 1000 50 90 10 110 2) ⟶ refused 1 1 (site (blank (settings 0 0 0 0 0 0 0)))
+    ∷ fresh (settings 9 1000 50 90 10 110 2) 0 ⟶ refused 1 1 (site (blank (settings 0 0 0 0 0 0 0) 0))
     -- C285: N 511, odd
-    ∷ fresh (settings 511 1000 50 90 10 110 2) ⟶ refused 1 1 (site (blank (settings 0 0 0 0 0 0 0)))
+    ∷ fresh (settings 511 1000 50 90 10 110 2) 0 ⟶ refused 1 1 (site (blank (settings 0 0 0 0 0 0 0) 0))
     -- C286: N 513
-    ∷ fresh (settings 513 50000 60 95 20 150 5) ⟶ refused 1 1 (site (blank (settings 0 0 0 0 0 0 0)))
+    ∷ fresh (settings 513 50000 60 95 20 150 5) 0 ⟶ refused 1 1 (site (blank (settings 0 0 0 0 0 0 0) 0))
     -- C287: N 514, even
-    ∷ fresh (settings 514 50000 60 95 20 150 5) ⟶ refused 1 1 (site (blank (settings 0 0 0 0 0 0 0)))
+    ∷ fresh (settings 514 50000 60 95 20 150 5) 0 ⟶ refused 1 1 (site (blank (settings 0 0 0 0 0 0 0) 0))
     -- C288: N 0
-    ∷ fresh (settings 0 1000 50 90 10 110 2) ⟶ refused 1 1 (site (blank (settings 0 0 0 0 0 0 0)))
+    ∷ fresh (settings 0 1000 50 90 10 110 2) 0 ⟶ refused 1 1 (site (blank (settings 0 0 0 0 0 0 0) 0))
     -- C289: R 999
-    ∷ fresh (settings 8 999 50 50 1 105 0) ⟶ refused 1 2 (site (blank (settings 0 0 0 0 0 0 0)))
+    ∷ fresh (settings 8 999 50 50 1 105 0) 0 ⟶ refused 1 2 (site (blank (settings 0 0 0 0 0 0 0) 0))
     -- C290: R 50,001
-    ∷ fresh (settings 512 50001 60 95 20 150 5) ⟶ refused 1 2 (site (blank (settings 0 0 0 0 0 0 0)))
+    ∷ fresh (settings 512 50001 60 95 20 150 5) 0 ⟶ refused 1 2 (site (blank (settings 0 0 0 0 0 0 0) 0))
     -- C291: f 49
-    ∷ fresh (settings 8 1000 49 90 10 110 2) ⟶ refused 1 3 (site (blank (settings 0 0 0 0 0 0 0)))
+    ∷ fresh (settings 8 1000 49 90 10 110 2) 0 ⟶ refused 1 3 (site (blank (settings 0 0 0 0 0 0 0) 0))
     -- C292: f 51
-    ∷ fresh (settings 8 1000 51 90 10 110 2) ⟶ refused 1 3 (site (blank (settings 0 0 0 0 0 0 0)))
+    ∷ fresh (settings 8 1000 51 90 10 110 2) 0 ⟶ refused 1 3 (site (blank (settings 0 0 0 0 0 0 0) 0))
     -- C293: f 55
-    ∷ fresh (settings 8 1000 55 90 10 110 2) ⟶ refused 1 3 (site (blank (settings 0 0 0 0 0 0 0)))
+    ∷ fresh (settings 8 1000 55 90 10 110 2) 0 ⟶ refused 1 3 (site (blank (settings 0 0 0 0 0 0 0) 0))
     -- C294: f 59
-    ∷ fresh (settings 8 1000 59 90 10 110 2) ⟶ refused 1 3 (site (blank (settings 0 0 0 0 0 0 0)))
+    ∷ fresh (settings 8 1000 59 90 10 110 2) 0 ⟶ refused 1 3 (site (blank (settings 0 0 0 0 0 0 0) 0))
     -- C295: f 61
-    ∷ fresh (settings 8 1000 61 90 10 110 2) ⟶ refused 1 3 (site (blank (settings 0 0 0 0 0 0 0)))
+    ∷ fresh (settings 8 1000 61 90 10 110 2) 0 ⟶ refused 1 3 (site (blank (settings 0 0 0 0 0 0 0) 0))
     -- C296: sag threshold 49
-    ∷ fresh (settings 8 1000 50 49 1 105 0) ⟶ refused 1 4 (site (blank (settings 0 0 0 0 0 0 0)))
+    ∷ fresh (settings 8 1000 50 49 1 105 0) 0 ⟶ refused 1 4 (site (blank (settings 0 0 0 0 0 0 0) 0))
     -- C297: sag threshold 96
-    ∷ fresh (settings 512 50000 60 96 20 150 5) ⟶ refused 1 4 (site (blank (settings 0 0 0 0 0 0 0)))
+    ∷ fresh (settings 512 50000 60 96 20 150 5) 0 ⟶ refused 1 4 (site (blank (settings 0 0 0 0 0 0 0) 0))
     -- C298: interruption threshold 0
-    ∷ fresh (settings 8 1000 50 50 0 105 0) ⟶ refused 1 5 (site (blank (settings 0 0 0 0 0 0 0)))
+    ∷ fresh (settings 8 1000 50 50 0 105 0) 0 ⟶ refused 1 5 (site (blank (settings 0 0 0 0 0 0 0) 0))
     -- C299: interruption threshold 21
-    ∷ fresh (settings 512 50000 60 95 21 150 5) ⟶ refused 1 5 (site (blank (settings 0 0 0 0 0 0 0)))
+    ∷ fresh (settings 512 50000 60 95 21 150 5) 0 ⟶ refused 1 5 (site (blank (settings 0 0 0 0 0 0 0) 0))
     -- C300: swell threshold 104
-    ∷ fresh (settings 8 1000 50 50 1 104 0) ⟶ refused 1 6 (site (blank (settings 0 0 0 0 0 0 0)))
+    ∷ fresh (settings 8 1000 50 50 1 104 0) 0 ⟶ refused 1 6 (site (blank (settings 0 0 0 0 0 0 0) 0))
     -- C301: swell threshold 151
-    ∷ fresh (settings 512 50000 60 95 20 151 5) ⟶ refused 1 6 (site (blank (settings 0 0 0 0 0 0 0)))
+    ∷ fresh (settings 512 50000 60 95 20 151 5) 0 ⟶ refused 1 6 (site (blank (settings 0 0 0 0 0 0 0) 0))
     -- C302: hysteresis 6
-    ∷ fresh (settings 512 50000 60 95 20 150 6) ⟶ refused 1 7 (site (blank (settings 0 0 0 0 0 0 0)))
+    ∷ fresh (settings 512 50000 60 95 20 150 6) 0 ⟶ refused 1 7 (site (blank (settings 0 0 0 0 0 0 0) 0))
     -- C303: N and R bad: the first is told
-    ∷ fresh (settings 513 999 50 90 10 110 2) ⟶ refused 1 1 (site (blank (settings 0 0 0 0 0 0 0)))
+    ∷ fresh (settings 513 999 50 90 10 110 2) 0 ⟶ refused 1 1 (site (blank (settings 0 0 0 0 0 0 0) 0))
     -- C304: R and f bad
-    ∷ fresh (settings 8 50001 55 90 10 110 2) ⟶ refused 1 2 (site (blank (settings 0 0 0 0 0 0 0)))
+    ∷ fresh (settings 8 50001 55 90 10 110 2) 0 ⟶ refused 1 2 (site (blank (settings 0 0 0 0 0 0 0) 0))
     -- C305: R and hysteresis bad
-    ∷ fresh (settings 8 999 50 90 10 110 6) ⟶ refused 1 2 (site (blank (settings 0 0 0 0 0 0 0)))
+    ∷ fresh (settings 8 999 50 90 10 110 6) 0 ⟶ refused 1 2 (site (blank (settings 0 0 0 0 0 0 0) 0))
     -- C306: f and sag threshold bad
-    ∷ fresh (settings 8 1000 55 96 10 110 2) ⟶ refused 1 3 (site (blank (settings 0 0 0 0 0 0 0)))
+    ∷ fresh (settings 8 1000 55 96 10 110 2) 0 ⟶ refused 1 3 (site (blank (settings 0 0 0 0 0 0 0) 0))
     -- C307: sag and interruption threshold bad
-    ∷ fresh (settings 8 1000 50 49 21 110 2) ⟶ refused 1 4 (site (blank (settings 0 0 0 0 0 0 0)))
+    ∷ fresh (settings 8 1000 50 49 21 110 2) 0 ⟶ refused 1 4 (site (blank (settings 0 0 0 0 0 0 0) 0))
     -- C308: interruption and swell threshold bad
-    ∷ fresh (settings 8 1000 50 90 0 104 2) ⟶ refused 1 5 (site (blank (settings 0 0 0 0 0 0 0)))
+    ∷ fresh (settings 8 1000 50 90 0 104 2) 0 ⟶ refused 1 5 (site (blank (settings 0 0 0 0 0 0 0) 0))
     -- C309: swell threshold and hysteresis bad
-    ∷ fresh (settings 8 1000 50 90 10 151 6) ⟶ refused 1 6 (site (blank (settings 0 0 0 0 0 0 0)))
+    ∷ fresh (settings 8 1000 50 90 10 151 6) 0 ⟶ refused 1 6 (site (blank (settings 0 0 0 0 0 0 0) 0))
     -- C310: all bad
-    ∷ fresh (settings 0 0 0 0 0 0 9) ⟶ refused 1 1 (site (blank (settings 0 0 0 0 0 0 0)))
+    ∷ fresh (settings 0 0 0 0 0 0 9) 0 ⟶ refused 1 1 (site (blank (settings 0 0 0 0 0 0 0) 0))
     ∷ []
 
 -- ---- sound and unsound tables, each condition broken by one
@@ -1205,59 +1214,59 @@ making =
 sound : List Case
 sound =
     -- C311: each number as large as it may be beside the total: sound
-    add (table house 2 1 1 0 (put 17 1 none) 1 2 2 2 48000000 48000000 0 0) (even 2 1000)
-    ⟶ taken (site (table house 3 2 1 0 (put 17 1 none) 1 2 2 2 48000000 48000000 0 0))
+    add (table house 0 2 1 1 0 (put 17 1 none) 1 2 2 2 48000000 48000000 0 0) (even 2 1000)
+    ⟶ taken (site (table house 0 3 2 1 0 (put 17 1 none) 1 2 2 2 48000000 48000000 0 0))
     -- C312: two interruptions beside one sag: sound
-    ∷ add (table house 2 1 1 0 (put 17 1 none) 0 1 2 2 48000000 48000000 0 0) (even 2 1000)
-    ⟶ taken (site (table house 3 2 1 0 (put 17 1 none) 0 1 2 2 48000000 48000000 0 0))
+    ∷ add (table house 0 2 1 1 0 (put 17 1 none) 0 1 2 2 48000000 48000000 0 0) (even 2 1000)
+    ⟶ taken (site (table house 0 3 2 1 0 (put 17 1 none) 0 1 2 2 48000000 48000000 0 0))
     -- C313: and beside none: sound, since no condition speaks of both
-    ∷ add (table house 2 1 1 0 none 0 0 2 2 48000000 48000000 0 0) (even 2 1000)
-    ⟶ taken (site (table house 3 2 1 0 none 0 0 2 2 48000000 48000000 0 0))
+    ∷ add (table house 0 2 1 1 0 none 0 0 2 2 48000000 48000000 0 0) (even 2 1000)
+    ⟶ taken (site (table house 0 3 2 1 0 none 0 0 2 2 48000000 48000000 0 0))
     -- C314: its settings bad: f 51
-    ∷ add (table (settings 8 1000 51 90 10 110 2) 2 1 1 0 (put 17 1 none) 1 2 2 2 48000000 48000000 0 0) (even 2 1000)
-    ⟶ refused 9 0 (site (table (settings 8 1000 51 90 10 110 2) 2 1 1 0 (put 17 1 none) 1 2 2 2 48000000 48000000 0 0))
+    ∷ add (table (settings 8 1000 51 90 10 110 2) 0 2 1 1 0 (put 17 1 none) 1 2 2 2 48000000 48000000 0 0) (even 2 1000)
+    ⟶ refused 9 0 (site (table (settings 8 1000 51 90 10 110 2) 0 2 1 1 0 (put 17 1 none) 1 2 2 2 48000000 48000000 0 0))
     -- C315: a healthy half-cycle too few
-    ∷ add (table house 2 0 1 0 (put 17 1 none) 1 2 2 2 48000000 48000000 0 0) (even 2 1000)
-    ⟶ refused 9 0 (site (table house 2 0 1 0 (put 17 1 none) 1 2 2 2 48000000 48000000 0 0))
+    ∷ add (table house 0 2 0 1 0 (put 17 1 none) 1 2 2 2 48000000 48000000 0 0) (even 2 1000)
+    ⟶ refused 9 0 (site (table house 0 2 0 1 0 (put 17 1 none) 1 2 2 2 48000000 48000000 0 0))
     -- C316: a disturbed half-cycle too many
-    ∷ add (table house 2 1 2 0 (put 17 1 none) 1 2 2 2 48000000 48000000 0 0) (even 2 1000)
-    ⟶ refused 9 0 (site (table house 2 1 2 0 (put 17 1 none) 1 2 2 2 48000000 48000000 0 0))
+    ∷ add (table house 0 2 1 2 0 (put 17 1 none) 1 2 2 2 48000000 48000000 0 0) (even 2 1000)
+    ⟶ refused 9 0 (site (table house 0 2 1 2 0 (put 17 1 none) 1 2 2 2 48000000 48000000 0 0))
     -- C317: an unknown half-cycle too many
-    ∷ add (table house 2 1 1 1 (put 17 1 none) 1 2 2 2 48000000 48000000 0 0) (even 2 1000)
-    ⟶ refused 9 0 (site (table house 2 1 1 1 (put 17 1 none) 1 2 2 2 48000000 48000000 0 0))
+    ∷ add (table house 0 2 1 1 1 (put 17 1 none) 1 2 2 2 48000000 48000000 0 0) (even 2 1000)
+    ⟶ refused 9 0 (site (table house 0 2 1 1 1 (put 17 1 none) 1 2 2 2 48000000 48000000 0 0))
     -- C318: a total one above its parts
-    ∷ add (table house 3 1 1 0 (put 17 1 none) 1 2 2 2 48000000 48000000 0 0) (even 2 1000)
-    ⟶ refused 9 0 (site (table house 3 1 1 0 (put 17 1 none) 1 2 2 2 48000000 48000000 0 0))
+    ∷ add (table house 0 3 1 1 0 (put 17 1 none) 1 2 2 2 48000000 48000000 0 0) (even 2 1000)
+    ⟶ refused 9 0 (site (table house 0 3 1 1 0 (put 17 1 none) 1 2 2 2 48000000 48000000 0 0))
     -- C319: a sag too many in cell 0
-    ∷ add (table house 2 1 1 0 (put 17 1 (put 0 1 none)) 1 2 2 2 48000000 48000000 0 0) (even 2 1000)
-    ⟶ refused 9 0 (site (table house 2 1 1 0 (put 17 1 (put 0 1 none)) 1 2 2 2 48000000 48000000 0 0))
+    ∷ add (table house 0 2 1 1 0 (put 17 1 (put 0 1 none)) 1 2 2 2 48000000 48000000 0 0) (even 2 1000)
+    ⟶ refused 9 0 (site (table house 0 2 1 1 0 (put 17 1 (put 0 1 none)) 1 2 2 2 48000000 48000000 0 0))
     -- C320: a sag too many in cell 39
-    ∷ add (table house 2 1 1 0 (put 39 1 (put 17 1 none)) 1 2 2 2 48000000 48000000 0 0) (even 2 1000)
-    ⟶ refused 9 0 (site (table house 2 1 1 0 (put 39 1 (put 17 1 none)) 1 2 2 2 48000000 48000000 0 0))
+    ∷ add (table house 0 2 1 1 0 (put 39 1 (put 17 1 none)) 1 2 2 2 48000000 48000000 0 0) (even 2 1000)
+    ⟶ refused 9 0 (site (table house 0 2 1 1 0 (put 39 1 (put 17 1 none)) 1 2 2 2 48000000 48000000 0 0))
     -- C321: an unplaced sag too few
-    ∷ add (table house 2 1 1 0 (put 17 1 none) 0 2 2 2 48000000 48000000 0 0) (even 2 1000)
-    ⟶ refused 9 0 (site (table house 2 1 1 0 (put 17 1 none) 0 2 2 2 48000000 48000000 0 0))
+    ∷ add (table house 0 2 1 1 0 (put 17 1 none) 0 2 2 2 48000000 48000000 0 0) (even 2 1000)
+    ⟶ refused 9 0 (site (table house 0 2 1 1 0 (put 17 1 none) 0 2 2 2 48000000 48000000 0 0))
     -- C322: sags one below cells and unplaced
-    ∷ add (table house 2 1 1 0 (put 17 1 none) 1 1 2 2 48000000 48000000 0 0) (even 2 1000)
-    ⟶ refused 9 0 (site (table house 2 1 1 0 (put 17 1 none) 1 1 2 2 48000000 48000000 0 0))
+    ∷ add (table house 0 2 1 1 0 (put 17 1 none) 1 1 2 2 48000000 48000000 0 0) (even 2 1000)
+    ⟶ refused 9 0 (site (table house 0 2 1 1 0 (put 17 1 none) 1 1 2 2 48000000 48000000 0 0))
     -- C323: sags one above the total
-    ∷ add (table house 2 1 1 0 (put 17 1 none) 2 3 2 2 48000000 48000000 0 0) (even 2 1000)
-    ⟶ refused 9 0 (site (table house 2 1 1 0 (put 17 1 none) 2 3 2 2 48000000 48000000 0 0))
+    ∷ add (table house 0 2 1 1 0 (put 17 1 none) 2 3 2 2 48000000 48000000 0 0) (even 2 1000)
+    ⟶ refused 9 0 (site (table house 0 2 1 1 0 (put 17 1 none) 2 3 2 2 48000000 48000000 0 0))
     -- C324: interruptions one above the total
-    ∷ add (table house 2 1 1 0 (put 17 1 none) 1 2 3 2 48000000 48000000 0 0) (even 2 1000)
-    ⟶ refused 9 0 (site (table house 2 1 1 0 (put 17 1 none) 1 2 3 2 48000000 48000000 0 0))
+    ∷ add (table house 0 2 1 1 0 (put 17 1 none) 1 2 3 2 48000000 48000000 0 0) (even 2 1000)
+    ⟶ refused 9 0 (site (table house 0 2 1 1 0 (put 17 1 none) 1 2 3 2 48000000 48000000 0 0))
     -- C325: swells one above the total
-    ∷ add (table house 2 1 1 0 (put 17 1 none) 1 2 2 3 48000000 48000000 0 0) (even 2 1000)
-    ⟶ refused 9 0 (site (table house 2 1 1 0 (put 17 1 none) 1 2 2 3 48000000 48000000 0 0))
+    ∷ add (table house 0 2 1 1 0 (put 17 1 none) 1 2 2 3 48000000 48000000 0 0) (even 2 1000)
+    ⟶ refused 9 0 (site (table house 0 2 1 1 0 (put 17 1 none) 1 2 2 3 48000000 48000000 0 0))
     -- C326: shortfall one above 3 x N x R x R x total
-    ∷ add (table house 2 1 1 0 (put 17 1 none) 1 2 2 2 48000001 48000000 1 0) (even 2 1000)
-    ⟶ refused 9 0 (site (table house 2 1 1 0 (put 17 1 none) 1 2 2 2 48000001 48000000 1 0))
+    ∷ add (table house 0 2 1 1 0 (put 17 1 none) 1 2 2 2 48000001 48000000 1 0) (even 2 1000)
+    ⟶ refused 9 0 (site (table house 0 2 1 1 0 (put 17 1 none) 1 2 2 2 48000001 48000000 1 0))
     -- C327: N 10, R 1001: shortfall on its bound
-    ∷ add (table ten 2 1 1 0 (put 17 1 none) 1 2 2 2 60120060 60120060 0 0) (alike 10 1001 1001 1001)
-    ⟶ taken (site (table ten 3 2 1 0 (put 17 1 none) 1 2 2 2 60120060 60120060 0 0))
+    ∷ add (table ten 0 2 1 1 0 (put 17 1 none) 1 2 2 2 60120060 60120060 0 0) (alike 10 1001 1001 1001)
+    ⟶ taken (site (table ten 0 3 2 1 0 (put 17 1 none) 1 2 2 2 60120060 60120060 0 0))
     -- C328: one above
-    ∷ add (table ten 2 1 1 0 (put 17 1 none) 1 2 2 2 60120061 20040020 20040020 20040021) (alike 10 1001 1001 1001)
-    ⟶ refused 9 0 (site (table ten 2 1 1 0 (put 17 1 none) 1 2 2 2 60120061 20040020 20040020 20040021))
+    ∷ add (table ten 0 2 1 1 0 (put 17 1 none) 1 2 2 2 60120061 20040020 20040020 20040021) (alike 10 1001 1001 1001)
+    ⟶ refused 9 0 (site (table ten 0 2 1 1 0 (put 17 1 none) 1 2 2 2 60120061 20040020 20040020 20040021))
     -- C329: room for one half-cycle more: filled to 4,000,000
     ∷ add (healthyOnly 3999999) (even 2 1000) ⟶ taken (site (healthyOnly 4000000))
     -- C330: a total of 4,000,000 is sound, and full
@@ -1265,7 +1274,7 @@ sound =
     -- C331: a total of 4,000,001 is unsound
     ∷ add (healthyOnly 4000001) (even 2 1000) ⟶ refused 9 0 (site (healthyOnly 4000001))
     -- C332: a table of zeros is unsound
-    ∷ add (blank (settings 0 0 0 0 0 0 0)) (even 2 1000) ⟶ refused 9 0 (site (blank (settings 0 0 0 0 0 0 0)))
+    ∷ add (blank (settings 0 0 0 0 0 0 0) 0) (even 2 1000) ⟶ refused 9 0 (site (blank (settings 0 0 0 0 0 0 0) 0))
     ∷ []
 
 -- ---- what a recording adds to a table, and when it is full
@@ -1274,27 +1283,27 @@ growing : List Case
 growing =
     -- C333: each number of the table its own, and something of everything added
     add various (set (even 1 500 ++ even 2 1000 ++ even 2 0 ++ even 2 1000 ++ uneven 1 1000 1300 1000 ++ even 3 1000) 110 lost)
-    ⟶ taken (site (table house 10022 5005 3007 2010 (put 1 103 (rising 40 101)) 58 4879 612 714 58234567 19123456 19345678 19765433))
+    ⟶ taken (site (table house 0 10022 5005 3007 2010 (put 1 103 (rising 40 101)) 58 4879 612 714 58234567 19123456 19345678 19765433))
     -- C334: and a calm recording: only total and healthy grow
     ∷ add various (even 4 1000)
-    ⟶ taken (site (table house 10015 5006 3001 2008 (rising 40 101) 57 4877 611 713 1234567 123456 345678 765433))
+    ⟶ taken (site (table house 0 10015 5006 3001 2008 (rising 40 101) 57 4877 611 713 1234567 123456 345678 765433))
     -- C335: two sags in two cells, of different rows and columns
-    ∷ add (blank house) (even 2 1000 ++ uneven 2 1000 899 1000 ++ even 1 1000 ++ uneven 3 1000 1000 100 ++ even 2 1000)
-    ⟶ taken (site (table house 9 4 5 0 (put 32 1 (put 1 1 none)) 0 2 0 0 25294392 0 1534392 23760000))
+    ∷ add (blank house 0) (even 2 1000 ++ uneven 2 1000 899 1000 ++ even 1 1000 ++ uneven 3 1000 1000 100 ++ even 2 1000)
+    ⟶ taken (site (table house 0 9 4 5 0 (put 32 1 (put 1 1 none)) 0 2 0 0 25294392 0 1534392 23760000))
     -- C336: f 60, hysteresis 5: a sag with its cell, and one whose end is unseen
-    ∷ add (blank wide) (even 2 1000 ++ uneven 1 300 450 600 ++ even 2 1000 ++ uneven 1 300 450 600 ++ even 1 1000)
-    ⟶ taken (site (table wide 6 2 4 0 (put 25 1 none) 1 2 0 0 27320000 14560000 12760000 0))
+    ∷ add (blank wide 0) (even 2 1000 ++ uneven 1 300 450 600 ++ even 2 1000 ++ uneven 1 300 450 600 ++ even 1 1000)
+    ⟶ taken (site (table wide 0 6 2 4 0 (put 25 1 none) 1 2 0 0 27320000 14560000 12760000 0))
     -- C337: N 10, R 1001
-    ∷ add (blank ten) (alike 10 1001 1001 1001 ++ alike 5 300 450 600 ++ alike 10 1001 1001 1001 ++ alike 5 300 450 600
+    ∷ add (blank ten 0) (alike 10 1001 1001 1001 ++ alike 5 300 450 600 ++ alike 10 1001 1001 1001 ++ alike 5 300 450 600
     ++ alike 5 1001 1001 1001)
-    ⟶ taken (site (table ten 6 2 4 0 (put 25 1 none) 1 2 0 0 47070060 18240020 15990020 12840020))
+    ⟶ taken (site (table ten 0 6 2 4 0 (put 25 1 none) 1 2 0 0 47070060 18240020 15990020 12840020))
     -- C338: sines
-    ∷ add (blank house) (sines 1000 1000 1000 ++ sines 500 800 1100 ++ sines 1000 1000 1000)
-    ⟶ taken (site (table house 5 2 3 0 (put 17 1 none) 0 1 0 0 14887106 12001812 2885294 0))
+    ∷ add (blank house 0) (sines 1000 1000 1000 ++ sines 500 800 1100 ++ sines 1000 1000 1000)
+    ⟶ taken (site (table house 0 5 2 3 0 (put 17 1 none) 0 1 0 0 14887106 12001812 2885294 0))
     -- C339: ten half-cycles fill the table exactly
     ∷ add (healthyOnly 3999990) (set (even 1 500 ++ even 2 1000 ++ even 2 0 ++ even 2 1000 ++ uneven 1 1000 1300 1000
     ++ even 3 1000) 110 lost)
-    ⟶ taken (site (table house 4000000 3999992 6 2 (put 1 1 none) 1 2 1 1 57000000 19000000 19000000 19000000))
+    ⟶ taken (site (table house 0 4000000 3999992 6 2 (put 1 1 none) 1 2 1 1 57000000 19000000 19000000 19000000))
     -- C340: there is room for nine, not for ten
     ∷ add (healthyOnly 3999991) (set (even 1 500 ++ even 2 1000 ++ even 2 0 ++ even 2 1000 ++ uneven 1 1000 1300 1000
     ++ even 3 1000) 110 lost)
@@ -1306,20 +1315,20 @@ growing =
 parts-of-tables : List Case
 parts-of-tables =
     -- C341: any three sums that make it up will do: equal ones
-    add (table house 2 1 1 0 (put 17 1 none) 1 2 2 2 48000000 16000000 16000000 16000000) []
-    ⟶ refused 3 0 (site (table house 2 1 1 0 (put 17 1 none) 1 2 2 2 48000000 16000000 16000000 16000000))
+    add (table house 0 2 1 1 0 (put 17 1 none) 1 2 2 2 48000000 16000000 16000000 16000000) []
+    ⟶ refused 3 0 (site (table house 0 2 1 1 0 (put 17 1 none) 1 2 2 2 48000000 16000000 16000000 16000000))
     -- C342: a's sum one too small: unsound
-    ∷ add (table house 2 1 1 0 (put 17 1 none) 1 2 2 2 48000000 47999999 0 0) []
-    ⟶ refused 9 0 (site (table house 2 1 1 0 (put 17 1 none) 1 2 2 2 48000000 47999999 0 0))
+    ∷ add (table house 0 2 1 1 0 (put 17 1 none) 1 2 2 2 48000000 47999999 0 0) []
+    ⟶ refused 9 0 (site (table house 0 2 1 1 0 (put 17 1 none) 1 2 2 2 48000000 47999999 0 0))
     -- C343: b's one too large
-    ∷ add (table house 2 1 1 0 (put 17 1 none) 1 2 2 2 48000000 48000000 1 0) []
-    ⟶ refused 9 0 (site (table house 2 1 1 0 (put 17 1 none) 1 2 2 2 48000000 48000000 1 0))
+    ∷ add (table house 0 2 1 1 0 (put 17 1 none) 1 2 2 2 48000000 48000000 1 0) []
+    ⟶ refused 9 0 (site (table house 0 2 1 1 0 (put 17 1 none) 1 2 2 2 48000000 48000000 1 0))
     -- C344: c's one too large
-    ∷ add (table house 2 1 1 0 (put 17 1 none) 1 2 2 2 48000000 48000000 0 1) []
-    ⟶ refused 9 0 (site (table house 2 1 1 0 (put 17 1 none) 1 2 2 2 48000000 48000000 0 1))
+    ∷ add (table house 0 2 1 1 0 (put 17 1 none) 1 2 2 2 48000000 48000000 0 1) []
+    ⟶ refused 9 0 (site (table house 0 2 1 1 0 (put 17 1 none) 1 2 2 2 48000000 48000000 0 1))
     -- C345: sums that only make up the shortfall if their sum wraps round at 2^64
-    ∷ add (table house 2 1 1 0 (put 17 1 none) 1 2 2 2 48000000 9223372036854775808 9223372036854775808 48000000) []
-    ⟶ refused 9 0 (site (table house 2 1 1 0 (put 17 1 none) 1 2 2 2 48000000 9223372036854775808 9223372036854775808 48000000))
+    ∷ add (table house 0 2 1 1 0 (put 17 1 none) 1 2 2 2 48000000 9223372036854775808 9223372036854775808 48000000) []
+    ⟶ refused 9 0 (site (table house 0 2 1 1 0 (put 17 1 none) 1 2 2 2 48000000 9223372036854775808 9223372036854775808 48000000))
     -- C346: N 512, R 50000, a shortfall of 15 x 10^18: sound
     ∷ add (vast 5000000000000000000 5000000000000000000 5000000000000000000) []
     ⟶ refused 3 0 (site (vast 5000000000000000000 5000000000000000000 5000000000000000000))
@@ -1342,7 +1351,7 @@ parts-of-recordings =
     ∷ straight house (even 2 1000 ++ uneven 2 1000 600 300 ++ even 2 1000) ⟶ sums (0 ∷ 10240000 ∷ 14560000 ∷ [])
     -- C352: the same, in a table with a number of its own in each place
     ∷ add various (even 2 1000 ++ uneven 2 1000 600 300 ++ even 2 1000)
-    ⟶ taken (site (table house 10017 5005 3004 2008 (put 9 111 (rising 40 101)) 57 4878 611 713 26034567 123456 10585678 15325433))
+    ⟶ taken (site (table house 0 10017 5005 3004 2008 (put 9 111 (rising 40 101)) 57 4878 611 713 26034567 123456 10585678 15325433))
     -- C353: a and c in a sag, b in a swell: nothing is taken off for b, and the swell has none
     ∷ list house 23 (even 2 1000 ++ uneven 2 700 1300 500 ++ even 2 1000)
     ⟶ events 2 (run (words 1 1 4 3 2000000 500 20160000 5 8160000 0 12000000 ++ words 3 1 4 3 13520000 1300 0 0 0 0 0 ++ nines 1))
@@ -1350,63 +1359,339 @@ parts-of-recordings =
     ∷ straight house (even 2 1000 ++ uneven 2 700 1300 500 ++ even 2 1000) ⟶ sums (8160000 ∷ 0 ∷ 12000000 ∷ [])
     ∷ []
 
+-- ---- set 1: columns on both sides of every border
+
+other-columns : List Case
+other-columns =
+    -- C355: f 50, h 1: below 2, column 0 (severity 0.8, energy 0.015)
+    score house 1 (event 1 7 8 3 320000 200 12000000 4 12000000 0 0)
+    ⟶ scored 0x3fe9_9999_9999_999a 0x3f8e_b851_eb85_1eb8 5
+    -- C356: f 50, h 2: column 1 (severity 0.8, energy 0.015)
+    ∷ score house 1 (event 1 7 9 3 320000 200 12000000 4 12000000 0 0)
+    ⟶ scored 0x3fe9_9999_9999_999a 0x3f8e_b851_eb85_1eb8 6
+    -- C357: f 50, h 10: 5h = f is no border here: column 1 (severity 1.6, energy 0.015)
+    ∷ score house 1 (event 1 7 17 3 320000 200 12000000 4 12000000 0 0)
+    ⟶ scored 0x3ff9_9999_9999_999a 0x3f8e_b851_eb85_1eb8 6
+    -- C358: f 50, h 19: 5h below 2f, column 1 (severity 1.6, energy 0.015)
+    ∷ score house 1 (event 1 7 26 3 320000 200 12000000 4 12000000 0 0)
+    ⟶ scored 0x3ff9_9999_9999_999a 0x3f8e_b851_eb85_1eb8 6
+    -- C359: f 50, h 20: 5h = 2f, column 2 (severity 1.6, energy 0.015)
+    ∷ score house 1 (event 1 7 27 3 320000 200 12000000 4 12000000 0 0)
+    ⟶ scored 0x3ff9_9999_9999_999a 0x3f8e_b851_eb85_1eb8 7
+    -- C360: f 50, h 49: below f, column 2 (severity 2.6666666666666665, energy 0.015)
+    ∷ score house 1 (event 1 7 56 3 320000 200 12000000 4 12000000 0 0)
+    ⟶ scored 0x4005_5555_5555_5555 0x3f8e_b851_eb85_1eb8 7
+    -- C361: f 50, h 50: h = f, column 3 (severity 2.6666666666666665, energy 0.015)
+    ∷ score house 1 (event 1 7 57 3 320000 200 12000000 4 12000000 0 0)
+    ⟶ scored 0x4005_5555_5555_5555 0x3f8e_b851_eb85_1eb8 8
+    -- C362: f 50, h 100: h = 2f is no border here: column 3 (severity 4, energy 0.015)
+    ∷ score house 1 (event 1 7 107 3 320000 200 12000000 4 12000000 0 0)
+    ⟶ scored 0x4010_0000_0000_0000 0x3f8e_b851_eb85_1eb8 8
+    -- C363: f 50, h 499: below 10f, column 3 (severity 4, energy 0.015)
+    ∷ score house 1 (event 1 7 506 3 320000 200 12000000 4 12000000 0 0)
+    ⟶ scored 0x4010_0000_0000_0000 0x3f8e_b851_eb85_1eb8 8
+    -- C364: f 50, h 500: h = 10f, column 4 (severity 4, energy 0.015)
+    ∷ score house 1 (event 1 7 507 3 320000 200 12000000 4 12000000 0 0)
+    ⟶ scored 0x4010_0000_0000_0000 0x3f8e_b851_eb85_1eb8 9
+    -- C365: f 50, h 6000: h = 120f is no border here: column 4 (severity 8, energy 0.015)
+    ∷ score house 1 (event 1 7 6007 3 320000 200 12000000 4 12000000 0 0)
+    ⟶ scored 0x4020_0000_0000_0000 0x3f8e_b851_eb85_1eb8 9
+    -- C366: f 60, h 1: below 2, column 0 (severity 0.8, energy 0.012)
+    ∷ score wide 1 (event 1 7 8 3 320000 200 12000000 4 12000000 0 0)
+    ⟶ scored 0x3fe9_9999_9999_999a 0x3f88_9374_bc6a_7efa 5
+    -- C367: f 60, h 2: column 1 (severity 0.8, energy 0.012)
+    ∷ score wide 1 (event 1 7 9 3 320000 200 12000000 4 12000000 0 0)
+    ⟶ scored 0x3fe9_9999_9999_999a 0x3f88_9374_bc6a_7efa 6
+    -- C368: f 60, h 12: 5h = f is no border here: column 1 (severity 1.6, energy 0.012)
+    ∷ score wide 1 (event 1 7 19 3 320000 200 12000000 4 12000000 0 0)
+    ⟶ scored 0x3ff9_9999_9999_999a 0x3f88_9374_bc6a_7efa 6
+    -- C369: f 60, h 23: 5h below 2f, column 1 (severity 1.6, energy 0.012)
+    ∷ score wide 1 (event 1 7 30 3 320000 200 12000000 4 12000000 0 0)
+    ⟶ scored 0x3ff9_9999_9999_999a 0x3f88_9374_bc6a_7efa 6
+    -- C370: f 60, h 24: 5h = 2f, column 2 (severity 1.6, energy 0.012)
+    ∷ score wide 1 (event 1 7 31 3 320000 200 12000000 4 12000000 0 0)
+    ⟶ scored 0x3ff9_9999_9999_999a 0x3f88_9374_bc6a_7efa 7
+    -- C371: f 60, h 59: below f, column 2 (severity 2.6666666666666665, energy 0.012)
+    ∷ score wide 1 (event 1 7 66 3 320000 200 12000000 4 12000000 0 0)
+    ⟶ scored 0x4005_5555_5555_5555 0x3f88_9374_bc6a_7efa 7
+    -- C372: f 60, h 60: h = f, column 3 (severity 2.6666666666666665, energy 0.012)
+    ∷ score wide 1 (event 1 7 67 3 320000 200 12000000 4 12000000 0 0)
+    ⟶ scored 0x4005_5555_5555_5555 0x3f88_9374_bc6a_7efa 8
+    -- C373: f 60, h 120: h = 2f is no border here: column 3 (severity 4, energy 0.012)
+    ∷ score wide 1 (event 1 7 127 3 320000 200 12000000 4 12000000 0 0)
+    ⟶ scored 0x4010_0000_0000_0000 0x3f88_9374_bc6a_7efa 8
+    -- C374: f 60, h 599: below 10f, column 3 (severity 4, energy 0.012)
+    ∷ score wide 1 (event 1 7 606 3 320000 200 12000000 4 12000000 0 0)
+    ⟶ scored 0x4010_0000_0000_0000 0x3f88_9374_bc6a_7efa 8
+    -- C375: f 60, h 600: h = 10f, column 4 (severity 4, energy 0.012)
+    ∷ score wide 1 (event 1 7 607 3 320000 200 12000000 4 12000000 0 0)
+    ⟶ scored 0x4010_0000_0000_0000 0x3f88_9374_bc6a_7efa 9
+    -- C376: f 60, h 7200: h = 120f is no border here: column 4 (severity 8, energy 0.012)
+    ∷ score wide 1 (event 1 7 7207 3 320000 200 12000000 4 12000000 0 0)
+    ⟶ scored 0x4020_0000_0000_0000 0x3f88_9374_bc6a_7efa 9
+    ∷ []
+
+-- ---- set 1: rows on both sides of every border
+
+other-rows : List Case
+other-rows =
+    -- C377: nothing left: row 0 (severity 1, energy 0)
+    score house 1 (event 1 7 9 3 0 0 1 4 1 0 0) ⟶ scored 0x3ff0_0000_0000_0000 0x0000_0000_0000_0000 1
+    -- C378: exactly 10 percent: row 0 (severity 0.9, energy 0)
+    ∷ score house 1 (event 1 7 9 3 80000 100 1 4 1 0 0) ⟶ scored 0x3fec_cccc_cccc_cccd 0x0000_0000_0000_0000 1
+    -- C379: one unit above: row 1 (severity 0.9, energy 0)
+    ∷ score house 1 (event 1 7 9 3 80001 100 1 4 1 0 0) ⟶ scored 0x3fec_cccc_cccc_cccd 0x0000_0000_0000_0000 6
+    -- C380: exactly 40 percent: row 1 (severity 0.6, energy 0)
+    ∷ score house 1 (event 1 7 9 3 1280000 400 1 4 1 0 0) ⟶ scored 0x3fe3_3333_3333_3333 0x0000_0000_0000_0000 6
+    -- C381: one unit above: row 2 (severity 0.6, energy 0)
+    ∷ score house 1 (event 1 7 9 3 1280001 400 1 4 1 0 0) ⟶ scored 0x3fe3_3333_3333_3333 0x0000_0000_0000_0000 11
+    -- C382: exactly 70 percent: row 2 (severity 0.3, energy 0)
+    ∷ score house 1 (event 1 7 9 3 3920000 700 1 4 1 0 0) ⟶ scored 0x3fd3_3333_3333_3333 0x0000_0000_0000_0000 11
+    -- C383: one unit above: row 3 (severity 0.3, energy 0)
+    ∷ score house 1 (event 1 7 9 3 3920001 700 1 4 1 0 0) ⟶ scored 0x3fd3_3333_3333_3333 0x0000_0000_0000_0000 16
+    -- C384: exactly 80 percent: row 3 (severity 0.2, energy 0)
+    ∷ score house 1 (event 1 7 9 3 5120000 800 1 4 1 0 0) ⟶ scored 0x3fc9_9999_9999_999a 0x0000_0000_0000_0000 16
+    -- C385: one unit above: row 4 (severity 0.2, energy 0)
+    ∷ score house 1 (event 1 7 9 3 5120001 800 1 4 1 0 0) ⟶ scored 0x3fc9_9999_9999_999a 0x0000_0000_0000_0000 21
+    -- C386: by set 0, exactly 80 percent: row 3 (severity 0.2, energy 0)
+    ∷ score house 0 (event 1 7 9 3 5120000 800 1 4 1 0 0) ⟶ scored 0x3fc9_9999_9999_999a 0x0000_0000_0000_0000 25
+    -- C387: one unit above: row 3 too (severity 0.2, energy 0)
+    ∷ score house 0 (event 1 7 9 3 5120001 800 1 4 1 0 0) ⟶ scored 0x3fc9_9999_9999_999a 0x0000_0000_0000_0000 25
+    -- C388: by set 1, exactly 85 percent: row 4 (severity 0.15, energy 0)
+    ∷ score house 1 (event 1 7 9 3 5780000 850 1 4 1 0 0) ⟶ scored 0x3fc3_3333_3333_3333 0x0000_0000_0000_0000 21
+    -- C389: one unit above: row 4 too (severity 0.15, energy 0)
+    ∷ score house 1 (event 1 7 9 3 5780001 850 1 4 1 0 0) ⟶ scored 0x3fc3_3333_3333_3333 0x0000_0000_0000_0000 21
+    -- C390: one unit below the sag threshold: row 4 (severity 0.1, energy 0)
+    ∷ score house 1 (event 1 7 9 3 6479999 900 1 4 1 0 0) ⟶ scored 0x3fb9_9999_9999_999a 0x0000_0000_0000_0000 21
+    -- C391: 40 percent is an S of 1603201.6, and the whole number below it in row 1 (severity 0.6, energy 0)
+    ∷ score ten 1 (event 1 7 9 3 1603201 400 1 4 1 0 0) ⟶ scored 0x3fe3_3333_3333_3333 0x0000_0000_0000_0000 6
+    -- C392: the one above it in row 2 (severity 0.6, energy 0)
+    ∷ score ten 1 (event 1 7 9 3 1603202 400 1 4 1 0 0) ⟶ scored 0x3fe3_3333_3333_3333 0x0000_0000_0000_0000 11
+    -- C393: 80 percent is an S of 6412806.4, and the whole number below it in row 3 (severity 0.2, energy 0)
+    ∷ score ten 1 (event 1 7 9 3 6412806 800 1 4 1 0 0) ⟶ scored 0x3fc9_9999_9999_999a 0x0000_0000_0000_0000 16
+    -- C394: the one above it in row 4 (severity 0.2, energy 0)
+    ∷ score ten 1 (event 1 7 9 3 6412807 800 1 4 1 0 0) ⟶ scored 0x3fc9_9999_9999_999a 0x0000_0000_0000_0000 21
+    ∷ []
+
+-- ---- set 1: the sags of the known answers
+
+other-known : List Case
+other-known =
+    -- C395: K2: cell 11 (severity 1, energy 0.045)
+    score house 1 (event 1 1 4 3 2000000 500 36000000 0 12000000 12000000 12000000)
+    ⟶ scored 0x3ff0_0000_0000_0000 0x3fa7_0a3d_70a3_d70a 11
+    -- C396: K4: cell 20 (severity 0.101, energy 0.005)
+    ∷ score house 1 (event 1 2 3 3 6465608 899 4603176 0 1534392 1534392 1534392)
+    ⟶ scored 0x3fb9_db22_d0e5_6042 0x3f74_7ae1_47ae_147b 20
+    -- C397: K5: cell 21 (severity 0.202, energy 0.005)
+    ∷ score house 1 (event 1 1 5 3 6465608 899 4603176 0 1534392 1534392 1534392)
+    ⟶ scored 0x3fc9_db22_d0e5_6042 0x3f74_7ae1_47ae_147b 21
+    -- C398: K6: cell 1 (severity 2, energy 0.06)
+    ∷ score house 1 (event 1 1 4 3 0 0 48000000 0 16000000 16000000 16000000)
+    ⟶ scored 0x4000_0000_0000_0000 0x3fae_b851_eb85_1eb8 1
+    -- C399: K7: cell 6 (severity 1.798, energy 0.059)
+    ∷ score house 1 (event 1 1 4 3 80804 101 47515176 0 15838392 15838392 15838392)
+    ⟶ scored 0x3ffc_c49b_a5e3_53f8 0x3fae_353f_7ced_9168 6
+    -- C400: K12: cell 11 (severity 1, energy 0.015)
+    ∷ score house 1 (event 1 1 4 3 2000000 500 12000000 4 12000000 0 0)
+    ⟶ scored 0x3ff0_0000_0000_0000 0x3f8e_b851_eb85_1eb8 11
+    ∷ []
+
+-- ---- set 1 and unknown sets: what has no score
+
+other-unscored : List Case
+other-unscored =
+    -- C401: set 1, a sag with a score (severity 0.5, energy 0.015)
+    score house 1 (event 1 30 32 3 2000000 500 12000000 4 7000000 4000000 1000000)
+    ⟶ scored 0x3fe0_0000_0000_0000 0x3f8e_b851_eb85_1eb8 11
+    -- C402: only the start unseen: 25, one above the last cell
+    ∷ score house 1 (event 1 30 32 2 2000000 500 12000000 4 7000000 4000000 1000000) ⟶ unscored 1 25
+    -- C403: only the end unseen
+    ∷ score house 1 (event 1 30 32 1 2000000 500 12000000 4 7000000 4000000 1000000) ⟶ unscored 2 25
+    -- C404: both unseen
+    ∷ score house 1 (event 1 30 32 0 2000000 500 12000000 4 7000000 4000000 1000000) ⟶ unscored 3 25
+    -- C405: a swell
+    ∷ score house 1 (event 3 7 9 3 9680001 1100 0 0 0 0 0) ⟶ unscored 4 25
+    -- C406: an interruption
+    ∷ score house 1 (event 2 7 9 3 20000 50 0 0 0 0 0) ⟶ unscored 4 25
+    -- C407: type 7: not an event
+    ∷ score house 1 (event 1 30 32 3 2000000 500 12000000 7 7000000 4000000 1000000) ⟶ unscored 5 25
+    -- C408: N 9: settings bad, and 25 since the set is known
+    ∷ score (settings 9 1000 50 90 10 110 2) 1 (event 1 30 32 3 2000000 500 12000000 4 7000000 4000000 1000000)
+    ⟶ unscored 6 25
+    -- C409: N 9 and kind 0
+    ∷ score (settings 9 1000 50 90 10 110 2) 1 (event 0 30 32 3 2000000 500 12000000 4 7000000 4000000 1000000)
+    ⟶ unscored 6 25
+    -- C410: set 2: 6, and cell 40
+    ∷ score house 2 (event 1 30 32 3 2000000 500 12000000 4 7000000 4000000 1000000) ⟶ unscored 6 40
+    -- C411: set 2^64 - 1
+    ∷ score house 18446744073709551615 (event 1 30 32 3 2000000 500 12000000 4 7000000 4000000 1000000) ⟶ unscored 6 40
+    -- C412: set 2 and N 9
+    ∷ score (settings 9 1000 50 90 10 110 2) 2 (event 1 30 32 3 2000000 500 12000000 4 7000000 4000000 1000000)
+    ⟶ unscored 6 40
+    -- C413: set 2 and kind 0: 6 before 5
+    ∷ score house 2 (event 0 30 32 3 2000000 500 12000000 4 7000000 4000000 1000000) ⟶ unscored 6 40
+    -- C414: set 2 and a swell: 6 before 4
+    ∷ score house 2 (event 3 7 9 3 9680001 1100 0 0 0 0 0) ⟶ unscored 6 40
+    -- C415: set 2 and both ends unseen: 6 before 3
+    ∷ score house 2 (event 1 30 32 0 2000000 500 12000000 4 7000000 4000000 1000000) ⟶ unscored 6 40
+    ∷ []
+
+-- ---- fresh tables for a set; where it is unknown, zeros
+
+other-making : List Case
+other-making =
+    -- C416: set 0
+    fresh house 0 ⟶ taken (site (blank house 0))
+    -- C417: set 1: its number stands after the settings
+    ∷ fresh house 1 ⟶ taken (site (blank house 1))
+    -- C418: set 1, other settings
+    ∷ fresh ten 1 ⟶ taken (site (blank ten 1))
+    -- C419: set 1 and f 55: zeros, the set too
+    ∷ fresh (settings 8 1000 55 90 10 110 2) 1 ⟶ refused 1 3 (site (blank (settings 0 0 0 0 0 0 0) 0))
+    -- C420: set 2: refusal 1, at 8
+    ∷ fresh house 2 ⟶ refused 1 8 (site (blank (settings 0 0 0 0 0 0 0) 0))
+    -- C421: set 2^64 - 1
+    ∷ fresh house 18446744073709551615 ⟶ refused 1 8 (site (blank (settings 0 0 0 0 0 0 0) 0))
+    -- C422: set 2 and f 55: the setting is told
+    ∷ fresh (settings 8 1000 55 90 10 110 2) 2 ⟶ refused 1 3 (site (blank (settings 0 0 0 0 0 0 0) 0))
+    -- C423: set 2 and hysteresis 6: the setting is told
+    ∷ fresh (settings 8 1000 50 90 10 110 6) 2 ⟶ refused 1 7 (site (blank (settings 0 0 0 0 0 0 0) 0))
+    ∷ []
+
+-- ---- tables with a sag in an unused cell, and with an unknown set
+
+other-unsound : List Case
+other-unsound =
+    -- C424: set 1, a sag in cell 0: sound
+    add (table house 1 2 1 1 0 (put 0 1 none) 1 2 2 2 48000000 48000000 0 0) (even 2 1000)
+    ⟶ taken (site (table house 1 3 2 1 0 (put 0 1 none) 1 2 2 2 48000000 48000000 0 0))
+    -- C425: in cell 24, the last: sound
+    ∷ add (table house 1 2 1 1 0 (put 24 1 none) 1 2 2 2 48000000 48000000 0 0) (even 2 1000)
+    ⟶ taken (site (table house 1 3 2 1 0 (put 24 1 none) 1 2 2 2 48000000 48000000 0 0))
+    -- C426: in cell 25, which is unused: unsound, though all adds up
+    ∷ add (table house 1 2 1 1 0 (put 25 1 none) 1 2 2 2 48000000 48000000 0 0) (even 2 1000)
+    ⟶ refused 9 0 (site (table house 1 2 1 1 0 (put 25 1 none) 1 2 2 2 48000000 48000000 0 0))
+    -- C427: in cell 39
+    ∷ add (table house 1 2 1 1 0 (put 39 1 none) 1 2 2 2 48000000 48000000 0 0) (even 2 1000)
+    ⟶ refused 9 0 (site (table house 1 2 1 1 0 (put 39 1 none) 1 2 2 2 48000000 48000000 0 0))
+    -- C428: set 0, the same numbers, a sag in cell 25: sound
+    ∷ add (table house 0 2 1 1 0 (put 25 1 none) 1 2 2 2 48000000 48000000 0 0) (even 2 1000)
+    ⟶ taken (site (table house 0 3 2 1 0 (put 25 1 none) 1 2 2 2 48000000 48000000 0 0))
+    -- C429: in cell 39: sound
+    ∷ add (table house 0 2 1 1 0 (put 39 1 none) 1 2 2 2 48000000 48000000 0 0) (even 2 1000)
+    ⟶ taken (site (table house 0 3 2 1 0 (put 39 1 none) 1 2 2 2 48000000 48000000 0 0))
+    -- C430: set 2, and all else sound
+    ∷ add (table house 2 2 1 1 0 (put 0 1 none) 1 2 2 2 48000000 48000000 0 0) (even 2 1000)
+    ⟶ refused 9 0 (site (table house 2 2 1 1 0 (put 0 1 none) 1 2 2 2 48000000 48000000 0 0))
+    -- C431: set 2^64 - 1
+    ∷ add (table house 18446744073709551615 2 1 1 0 (put 0 1 none) 1 2 2 2 48000000 48000000 0 0) (even 2 1000)
+    ⟶ refused 9 0 (site (table house 18446744073709551615 2 1 1 0 (put 0 1 none) 1 2 2 2 48000000 48000000 0 0))
+    -- C432: set 2, and nothing in it
+    ∷ add (blank house 2) (even 2 1000) ⟶ refused 9 0 (site (blank house 2))
+    ∷ []
+
+-- ---- what a recording adds to a table for set 1
+
+other-growing : List Case
+other-growing =
+    -- C433: K2: cell 11
+    add (blank house 1) (even 2 1000 ++ even 2 500 ++ even 2 1000)
+    ⟶ taken (site (table house 1 5 2 3 0 (put 11 1 none) 0 1 0 0 36000000 12000000 12000000 12000000))
+    -- C434: K4: cell 20
+    ∷ add (blank house 1) (even 2 1000 ++ even 2 899 ++ even 2 1000)
+    ⟶ taken (site (table house 1 5 4 1 0 (put 20 1 none) 0 1 0 0 4603176 1534392 1534392 1534392))
+    -- C435: K7: cell 6
+    ∷ add (blank house 1) (even 2 1000 ++ even 1 100 ++ even 1 101 ++ even 2 1000)
+    ⟶ taken (site (table house 1 5 2 3 0 (put 6 1 none) 0 1 0 0 47515176 15838392 15838392 15838392))
+    -- C436: two sags in two cells, of different rows and columns
+    ∷ add (blank house 1) (even 2 1000 ++ uneven 2 1000 899 1000 ++ even 1 1000 ++ uneven 3 1000 1000 100 ++ even 2 1000)
+    ⟶ taken (site (table house 1 9 4 5 0 (put 20 1 (put 1 1 none)) 0 2 0 0 25294392 0 1534392 23760000))
+    -- C437: exactly 80 percent: row 3
+    ∷ add (blank house 1) (even 2 1000 ++ weave (quad 1600 0 0 0) (quad 1600 0 0 0) (quad 1600 0 0 0)
+    ++ weave (quad 1600 0 0 0) (quad 1600 0 0 0) (quad 1600 0 0 0) ++ even 2 1000)
+    ⟶ taken (site (table house 1 5 3 2 0 (put 16 1 none) 0 1 0 0 8640000 2880000 2880000 2880000))
+    -- C438: one unit of S more: row 4
+    ∷ add (blank house 1) (even 2 1000 ++ weave (quad 1600 0 0 0) (quad 1600 0 0 0) (quad 1600 0 0 0)
+    ++ weave (quad 1600 1 0 0) (quad 1600 1 0 0) (quad 1600 1 0 0) ++ even 2 1000)
+    ⟶ taken (site (table house 1 5 3 2 0 (put 21 1 none) 0 1 0 0 8639997 2879999 2879999 2879999))
+    -- C439: ten half-cycles, 5h = f: column 1
+    ∷ add (blank house 1) (even 2 1000 ++ even 9 500 ++ even 2 1000)
+    ⟶ taken (site (table house 1 12 2 10 0 (put 11 1 none) 0 1 0 0 162000000 54000000 54000000 54000000))
+    -- C440: K8: unplaced
+    ∷ add (blank house 1) (even 2 500 ++ even 2 1000)
+    ⟶ taken (site (table house 1 3 1 2 0 none 1 1 0 0 27000000 9000000 9000000 9000000))
+    -- C441: each number of the table its own, and something of everything added
+    ∷ add otherVarious (set (even 1 500 ++ even 2 1000 ++ even 2 0 ++ even 2 1000 ++ uneven 1 1000 1300 1000
+    ++ even 3 1000) 110 lost)
+    ⟶ taken (site (table house 1 10022 5005 3007 2010 (put 1 103 (few 101)) 58 2884 612 714 58234567 19123456 19345678 19765433))
+    -- C442: a refused recording: the table stays, its set too
+    ∷ add otherVarious [] ⟶ refused 3 0 (site otherVarious)
+    -- C443: five half-cycles where there is room for four
+    ∷ add (table house 1 3999996 3999996 0 0 none 0 0 0 0 0 0 0 0) (even 2 1000 ++ even 2 500 ++ even 2 1000)
+    ⟶ refused 8 4 (site (table house 1 3999996 3999996 0 0 none 0 0 0 0 0 0 0 0))
+    -- C444: where there is room for five
+    ∷ add (table house 1 3999995 3999995 0 0 none 0 0 0 0 0 0 0 0) (even 2 1000 ++ even 2 500 ++ even 2 1000)
+    ⟶ taken (site (table house 1 4000000 3999997 3 0 (put 11 1 none) 0 1 0 0 36000000 12000000 12000000 12000000))
+    ∷ []
+
 -- ---- refusals 2, 3 and 4
 
 lengths : List Case
 lengths =
-    -- C355: no samples: 3
+    -- C445: no samples: 3
     list house 12 [] ⟶ refused 3 0 (run (nines 12))
-    -- C356: one sample: 2 before 3
+    -- C446: one sample: 2 before 3
     ∷ list house 12 (pos 1000 ∷ []) ⟶ refused 2 0 (run (nines 12))
-    -- C357: two samples: 2 before 3
+    -- C447: two samples: 2 before 3
     ∷ list house 12 (pos 1000 ∷ pos 1000 ∷ []) ⟶ refused 2 0 (run (nines 12))
-    -- C358: 8 samples per channel and one more: 2
+    -- C448: 8 samples per channel and one more: 2
     ∷ list house 12 (even 2 1000 ++ pos 1000 ∷ []) ⟶ refused 2 0 (run (nines 12))
-    -- C359: and two more: 2
+    -- C449: and two more: 2
     ∷ list house 12 (even 2 1000 ++ pos 1000 ∷ pos 1000 ∷ []) ⟶ refused 2 0 (run (nines 12))
-    -- C360: 4 samples per channel, a multiple of N/2: 3
+    -- C450: 4 samples per channel, a multiple of N/2: 3
     ∷ list house 12 (even 1 1000) ⟶ refused 3 0 (run (nines 12))
-    -- C361: 7: 3 before 4
+    -- C451: 7: 3 before 4
     ∷ list house 12 (alike 7 1000 1000 1000) ⟶ refused 3 0 (run (nines 12))
-    -- C362: 8: one half-cycle
+    -- C452: 8: one half-cycle
     ∷ list house 12 (even 2 1000) ⟶ events 0 (run (nines 12))
-    -- C363: 9: 4
+    -- C453: 9: 4
     ∷ list house 12 (alike 9 1000 1000 1000) ⟶ refused 4 0 (run (nines 12))
-    -- C364: 11: 4
+    -- C454: 11: 4
     ∷ list house 12 (alike 11 1000 1000 1000) ⟶ refused 4 0 (run (nines 12))
-    -- C365: 12: two half-cycles
+    -- C455: 12: two half-cycles
     ∷ list house 12 (even 3 1000) ⟶ events 0 (run (nines 12))
-    -- C366: added, no samples: 3
+    -- C456: added, no samples: 3
     ∷ add various [] ⟶ refused 3 0 (site various)
-    -- C367: added, one sample: 2 before 3
+    -- C457: added, one sample: 2 before 3
     ∷ add various (pos 1000 ∷ []) ⟶ refused 2 0 (site various)
-    -- C368: added, two samples: 2 before 3
+    -- C458: added, two samples: 2 before 3
     ∷ add various (pos 1000 ∷ pos 1000 ∷ []) ⟶ refused 2 0 (site various)
-    -- C369: added, 8 samples per channel and one more: 2
+    -- C459: added, 8 samples per channel and one more: 2
     ∷ add various (even 2 1000 ++ pos 1000 ∷ []) ⟶ refused 2 0 (site various)
-    -- C370: added, and two more: 2
+    -- C460: added, and two more: 2
     ∷ add various (even 2 1000 ++ pos 1000 ∷ pos 1000 ∷ []) ⟶ refused 2 0 (site various)
-    -- C371: added, 4 samples per channel, a multiple of N/2: 3
+    -- C461: added, 4 samples per channel, a multiple of N/2: 3
     ∷ add various (even 1 1000) ⟶ refused 3 0 (site various)
-    -- C372: added, 7: 3 before 4
+    -- C462: added, 7: 3 before 4
     ∷ add various (alike 7 1000 1000 1000) ⟶ refused 3 0 (site various)
-    -- C373: added, 8: one half-cycle
+    -- C463: added, 8: one half-cycle
     ∷ add various (even 2 1000)
-    ⟶ taken (site (table house 10013 5004 3001 2008 (rising 40 101) 57 4877 611 713 1234567 123456 345678 765433))
-    -- C374: added, 9: 4
+    ⟶ taken (site (table house 0 10013 5004 3001 2008 (rising 40 101) 57 4877 611 713 1234567 123456 345678 765433))
+    -- C464: added, 9: 4
     ∷ add various (alike 9 1000 1000 1000) ⟶ refused 4 0 (site various)
-    -- C375: added, 11: 4
+    -- C465: added, 11: 4
     ∷ add various (alike 11 1000 1000 1000) ⟶ refused 4 0 (site various)
-    -- C376: added, 12: two half-cycles
+    -- C466: added, 12: two half-cycles
     ∷ add various (even 3 1000)
-    ⟶ taken (site (table house 10014 5005 3001 2008 (rising 40 101) 57 4877 611 713 1234567 123456 345678 765433))
-    -- C377: N 10, 9 samples per channel: 3
+    ⟶ taken (site (table house 0 10014 5005 3001 2008 (rising 40 101) 57 4877 611 713 1234567 123456 345678 765433))
+    -- C467: N 10, 9 samples per channel: 3
     ∷ list ten 12 (alike 9 300 1001 1001) ⟶ refused 3 0 (run (nines 12))
-    -- C378: 10: one half-cycle
+    -- C468: 10: one half-cycle
     ∷ list ten 12 (alike 10 300 1001 1001) ⟶ events 1 (run (words 1 0 1 0 900000 300 9120010 4 9120010 0 0 ++ nines 1))
-    -- C379: 14: 4
+    -- C469: 14: 4
     ∷ list ten 12 (alike 14 300 1001 1001) ⟶ refused 4 0 (run (nines 12))
-    -- C380: 15: two half-cycles
+    -- C470: 15: two half-cycles
     ∷ list ten 12 (alike 15 300 1001 1001)
     ⟶ events 1 (run (words 1 0 2 0 900000 300 18240020 4 18240020 0 0 ++ nines 1))
     ∷ []
@@ -1415,54 +1700,54 @@ lengths =
 
 samples : List Case
 samples =
-    -- C381: all samples 100,000
+    -- C471: all samples 100,000
     list high 12 (even 2 100000) ⟶ events 1 (run (words 3 0 1 0 80000000000 2000 0 0 0 0 0 ++ nines 1))
-    -- C382: all samples -100,000
+    -- C472: all samples -100,000
     ∷ list high 12 (mirror (even 2 100000)) ⟶ events 1 (run (words 3 0 1 0 80000000000 2000 0 0 0 0 0 ++ nines 1))
-    -- C383: 100,001: 6, at its index
+    -- C473: 100,001: 6, at its index
     ∷ list high 12 (set (even 2 50000) 0 (pos 100001)) ⟶ refused 6 0 (run (nines 12))
-    -- C384: -100,001
+    -- C474: -100,001
     ∷ list high 12 (set (even 2 50000) 4 (minus 100001)) ⟶ refused 6 4 (run (nines 12))
-    -- C385: 2,147,483,647
+    -- C475: 2,147,483,647
     ∷ list high 12 (set (even 2 50000) 8 (pos 2147483647)) ⟶ refused 6 8 (run (nines 12))
-    -- C386: -2,147,483,647
+    -- C476: -2,147,483,647
     ∷ list high 12 (set (even 2 50000) 22 (minus 2147483647)) ⟶ refused 6 22 (run (nines 12))
-    -- C387: -2,147,483,648 is missing, and no refusal
+    -- C477: -2,147,483,648 is missing, and no refusal
     ∷ list high 12 (set (even 2 50000) 23 lost) ⟶ events 0 (run (nines 12))
-    -- C388: two of them: the first index
+    -- C478: two of them: the first index
     ∷ list high 12 (set (set (even 2 50000) 20 (pos 100001)) 7 (minus 100001)) ⟶ refused 6 7 (run (nines 12))
-    -- C389: a missing sample before it is none
+    -- C479: a missing sample before it is none
     ∷ list high 12 (set (set (even 2 50000) 7 lost) 20 (pos 100001)) ⟶ refused 6 20 (run (nines 12))
-    -- C390: added: 6, at the last index
+    -- C480: added: 6, at the last index
     ∷ add various (set (even 2 1000) 23 (pos 100001)) ⟶ refused 6 23 (site various)
-    -- C391: added, two of them
+    -- C481: added, two of them
     ∷ add various (set (set (even 2 1000) 13 (minus 100001)) 14 (pos 100001)) ⟶ refused 6 13 (site various)
-    -- C392: added, a single sample of 100,000
+    -- C482: added, a single sample of 100,000
     ∷ add various (set (even 2 1000) 0 (pos 100000))
-    ⟶ taken (site (table house 10013 5003 3002 2008 (rising 40 101) 57 4877 611 714 1234567 123456 345678 765433))
+    ⟶ taken (site (table house 0 10013 5003 3002 2008 (rising 40 101) 57 4877 611 714 1234567 123456 345678 765433))
     ∷ []
 
 -- ---- refusal 7, and how far the lent run is written
 
 rooms : List Case
 rooms =
-    -- C393: room 10 for K2: 7, at the number of events
+    -- C483: room 10 for K2: 7, at the number of events
     list house 10 (even 2 1000 ++ even 2 500 ++ even 2 1000) ⟶ refused 7 1 (run (nines 10))
-    -- C394: room 11: accepted, and all of it written
+    -- C484: room 11: accepted, and all of it written
     ∷ list house 11 (even 2 1000 ++ even 2 500 ++ even 2 1000)
     ⟶ events 1 (run (words 1 1 4 3 2000000 500 36000000 0 12000000 12000000 12000000))
-    -- C395: no room at all
+    -- C485: no room at all
     ∷ list house 0 (even 2 1000 ++ even 2 500 ++ even 2 1000) ⟶ refused 7 1 (run (nines 0))
-    -- C396: no room and no event: accepted
+    -- C486: no room and no event: accepted
     ∷ list house 0 (even 6 1000) ⟶ events 0 (run (nines 0))
-    -- C397: room for one event of two
+    -- C487: room for one event of two
     ∷ list house 11 (even 2 1000 ++ even 2 0 ++ even 2 1000) ⟶ refused 7 2 (run (nines 11))
-    -- C398: room 21 for two events
+    -- C488: room 21 for two events
     ∷ list house 21 (even 2 1000 ++ even 2 0 ++ even 2 1000) ⟶ refused 7 2 (run (nines 21))
-    -- C399: room 22
+    -- C489: room 22
     ∷ list house 22 (even 2 1000 ++ even 2 0 ++ even 2 1000)
     ⟶ events 2 (run (words 1 1 4 3 0 0 48000000 0 16000000 16000000 16000000 ++ words 2 2 3 3 0 0 0 0 0 0 0))
-    -- C400: room 26: the last four numbers stay
+    -- C490: room 26: the last four numbers stay
     ∷ list house 26 (even 2 1000 ++ even 2 0 ++ even 2 1000)
     ⟶ events 2 (run (words 1 1 4 3 0 0 48000000 0 16000000 16000000 16000000 ++ words 2 2 3 3 0 0 0 0 0 0 0 ++ nines 4))
     ∷ []
@@ -1471,39 +1756,39 @@ rooms =
 
 order : List Case
 order =
-    -- C401: f 55, hysteresis 6, length 5, a sample out of range: 1, at f
+    -- C491: f 55, hysteresis 6, length 5, a sample out of range: 1, at f
     list (settings 8 1000 55 90 10 110 6) 10 (pos 100001 ∷ pos 1000 ∷ pos 1000 ∷ pos 1000 ∷ pos 1000 ∷ [])
     ⟶ refused 1 3 (run (nines 10))
-    -- C402: length 5, a sample out of range: 2
+    -- C492: length 5, a sample out of range: 2
     ∷ list house 10 (pos 100001 ∷ pos 1000 ∷ pos 1000 ∷ pos 1000 ∷ pos 1000 ∷ []) ⟶ refused 2 0 (run (nines 10))
-    -- C403: 7 samples per channel, one out of range: 3
+    -- C493: 7 samples per channel, one out of range: 3
     ∷ list house 10 (set (alike 7 1000 1000 1000) 0 (pos 100001)) ⟶ refused 3 0 (run (nines 10))
-    -- C404: 9 samples per channel, one out of range: 4
+    -- C494: 9 samples per channel, one out of range: 4
     ∷ list house 10 (set (alike 9 1000 1000 1000) 0 (pos 100001)) ⟶ refused 4 0 (run (nines 10))
-    -- C405: a sample out of range and too little room: 6
+    -- C495: a sample out of range and too little room: 6
     ∷ list house 10 (set (even 2 1000 ++ even 2 500 ++ even 2 1000) 71 (pos 100001)) ⟶ refused 6 71 (run (nines 10))
-    -- C406: f 55, hysteresis 6 and too little room: 1
+    -- C496: f 55, hysteresis 6 and too little room: 1
     ∷ list (settings 8 1000 55 90 10 110 6) 10 (even 2 1000 ++ even 2 500 ++ even 2 1000) ⟶ refused 1 3 (run (nines 10))
-    -- C407: hysteresis 6 alone: 1, at 7
+    -- C497: hysteresis 6 alone: 1, at 7
     ∷ list (settings 8 1000 50 90 10 110 6) 12 (even 2 1000 ++ even 2 500 ++ even 2 1000) ⟶ refused 1 7 (run (nines 12))
-    -- C408: an unsound table, full, length 5, a sample out of range: 9
-    ∷ add (table house 4000000 4000000 0 1 none 0 0 0 0 0 0 0 0) (pos 100001 ∷ pos 1000 ∷ pos 1000 ∷ pos 1000 ∷ pos 1000 ∷ [])
-    ⟶ refused 9 0 (site (table house 4000000 4000000 0 1 none 0 0 0 0 0 0 0 0))
-    -- C409: an unsound table: 9
-    ∷ add (table house 10012 5003 3001 2009 (rising 40 101) 57 4877 611 713 1234567 123456 345678 765433) (even 2 1000
+    -- C498: an unsound table, full, length 5, a sample out of range: 9
+    ∷ add (table house 0 4000000 4000000 0 1 none 0 0 0 0 0 0 0 0) (pos 100001 ∷ pos 1000 ∷ pos 1000 ∷ pos 1000 ∷ pos 1000 ∷ [])
+    ⟶ refused 9 0 (site (table house 0 4000000 4000000 0 1 none 0 0 0 0 0 0 0 0))
+    -- C499: an unsound table: 9
+    ∷ add (table house 0 10012 5003 3001 2009 (rising 40 101) 57 4877 611 713 1234567 123456 345678 765433) (even 2 1000
     ++ even 2 500 ++ even 2 1000)
-    ⟶ refused 9 0 (site (table house 10012 5003 3001 2009 (rising 40 101) 57 4877 611 713 1234567 123456 345678 765433))
-    -- C410: a full table, length 5, a sample out of range: 2
+    ⟶ refused 9 0 (site (table house 0 10012 5003 3001 2009 (rising 40 101) 57 4877 611 713 1234567 123456 345678 765433))
+    -- C500: a full table, length 5, a sample out of range: 2
     ∷ add (healthyOnly 4000000) (pos 100001 ∷ pos 1000 ∷ pos 1000 ∷ pos 1000 ∷ pos 1000 ∷ [])
     ⟶ refused 2 0 (site (healthyOnly 4000000))
-    -- C411: a full table, 7 samples per channel, one out of range: 3
+    -- C501: a full table, 7 samples per channel, one out of range: 3
     ∷ add (healthyOnly 4000000) (set (alike 7 1000 1000 1000) 0 (pos 100001)) ⟶ refused 3 0 (site (healthyOnly 4000000))
-    -- C412: a full table, 9 samples per channel, one out of range: 4
+    -- C502: a full table, 9 samples per channel, one out of range: 4
     ∷ add (healthyOnly 4000000) (set (alike 9 1000 1000 1000) 0 (pos 100001)) ⟶ refused 4 0 (site (healthyOnly 4000000))
-    -- C413: a full table, a sample out of range: 6
+    -- C503: a full table, a sample out of range: 6
     ∷ add (healthyOnly 4000000) (set (even 2 1000 ++ even 2 500 ++ even 2 1000) 71 (pos 100001))
     ⟶ refused 6 71 (site (healthyOnly 4000000))
-    -- C414: five half-cycles where there is room for four: 8, at 4
+    -- C504: five half-cycles where there is room for four: 8, at 4
     ∷ add (healthyOnly 3999996) (even 2 1000 ++ even 2 500 ++ even 2 1000) ⟶ refused 8 4 (site (healthyOnly 3999996))
     ∷ []
 
@@ -1512,9 +1797,10 @@ order =
 cases : List Case
 cases =
     sags ++ interruptions ++ swells ++ overlaps ++ marks ++ gaps ++ types ++ nearest ++ durations ++ depths ++ energies
-    ++ not-events ++ parts-of-events ++ making ++ sound ++ growing ++ parts-of-tables ++ parts-of-recordings ++ lengths ++ samples
+    ++ not-events ++ parts-of-events ++ making ++ sound ++ growing ++ parts-of-tables ++ parts-of-recordings ++ other-columns
+    ++ other-rows ++ other-known ++ other-unscored ++ other-making ++ other-unsound ++ other-growing ++ lengths ++ samples
     ++ rooms ++ order
 
 case-answers : map asked-again cases ≡ cases
-unfolding answerTo asked-again cases sags interruptions swells overlaps marks gaps types nearest durations depths energies not-events parts-of-events making sound growing parts-of-tables parts-of-recordings lengths samples rooms order firstBad badSetting settingsGood halvesOf anyMissing squares sumsAt halfAt full carries inRun inEvent starts endOf seenOf extremeOf earliest climb retainedOf shortsOf sixSums typeOf eventFrom eventAt eventsOf inBounds sagGood isEvent reasonOf scoring rowOf columnOf cellOf isHealthy isDisturbed isUnknown isPlaced isUnplaced sagCell sagSum sagShort grown isUnsound recordingCheck settingsCheck roomCheck listCheck listed written freshened soundCheck fullCheck addCheck added div ofInt ofBits
+unfolding answerTo asked-again cases sags interruptions swells overlaps marks gaps types nearest durations depths energies not-events parts-of-events making sound growing parts-of-tables parts-of-recordings other-columns other-rows other-known other-unscored other-making other-unsound other-growing lengths samples rooms order firstBad badSetting settingsGood halvesOf anyMissing squares sumsAt halfAt full carries inRun inEvent starts endOf seenOf extremeOf earliest climb retainedOf shortsOf sixSums typeOf eventFrom eventAt eventsOf inBounds sagGood isEvent reasonOf scoring rowOf columnOf cellOf isHealthy isDisturbed isUnknown isPlaced isUnplaced sagCell sagSum sagShort grown isUnsound recordingCheck settingsCheck roomCheck listCheck listed written freshened soundCheck fullCheck addCheck added div ofInt ofBits
 case-answers = refl

@@ -8,9 +8,6 @@ use super::{add, fresh_by, score_by, with, Case, Section, HOUSE, TEN, WIDE};
 use crate::site::at;
 use crate::{fresh, Settings, Table};
 
-/// The first set that there is not, and the last.
-const UNKNOWN: [(u64, &str); 2] = [(2, "set 2"), (u64::MAX, "set 2^64 - 1")];
-
 pub fn columns() -> Section {
     let fifty = [
         (1, "below 2, column 0"),
@@ -89,7 +86,7 @@ pub fn known() -> Section {
 
 pub fn unscored() -> Section {
     let bad = Settings { n: 9, ..HOUSE };
-    let mut cases = vec![
+    let cases = vec![
         score_by(1, HOUSE, SAG, "set 1, a sag with a score"),
         score_by(1, HOUSE, with(SAG, &[(of::SEEN, 2)]), "only the start unseen: 25, one above the last cell"),
         score_by(1, HOUSE, with(SAG, &[(of::SEEN, 1)]), "only the end unseen"),
@@ -99,34 +96,28 @@ pub fn unscored() -> Section {
         score_by(1, HOUSE, with(SAG, &[(of::TYPE, 7)]), "type 7: not an event"),
         score_by(1, bad, SAG, "N 9: settings bad, and 25 since the set is known"),
         score_by(1, bad, with(SAG, &[(of::KIND, 0)]), "N 9 and kind 0"),
+        score_by(2, HOUSE, SAG, "set 2: 6, and cell 40"),
+        score_by(u64::MAX, HOUSE, SAG, "set 2^64 - 1"),
+        score_by(2, bad, SAG, "set 2 and N 9"),
+        score_by(2, HOUSE, with(SAG, &[(of::KIND, 0)]), "set 2 and kind 0: 6 before 5"),
+        score_by(2, HOUSE, SWELL, "set 2 and a swell: 6 before 4"),
+        score_by(2, HOUSE, with(SAG, &[(of::SEEN, 0)]), "set 2 and both ends unseen: 6 before 3"),
     ];
-    for (set, words) in UNKNOWN {
-        cases.extend([
-            score_by(set, HOUSE, SAG, format!("{words}: 6, and cell 40")),
-            score_by(set, bad, SAG, format!("{words} and N 9")),
-            score_by(set, HOUSE, with(SAG, &[(of::KIND, 0)]), format!("{words} and kind 0: 6 before 5")),
-            score_by(set, HOUSE, SWELL, format!("{words} and a swell: 6 before 4")),
-            score_by(set, HOUSE, with(SAG, &[(of::SEEN, 0)]), format!("{words} and both ends unseen: 6 before 3")),
-        ]);
-    }
     Section { name: "other-unscored", about: "set 1 and unknown sets: what has no score", cases }
 }
 
 pub fn making() -> Section {
     let (frequency, hysteresis) = (Settings { f: 55, ..HOUSE }, Settings { hysteresis: 6, ..HOUSE });
-    let mut cases = vec![
+    let cases = vec![
         fresh_by(0, HOUSE, "set 0"),
         fresh_by(1, HOUSE, "set 1: its number stands after the settings"),
         fresh_by(1, TEN, "set 1, other settings"),
         fresh_by(1, frequency, "set 1 and f 55: zeros, the set too"),
+        fresh_by(2, HOUSE, "set 2: refusal 1, at 8"),
+        fresh_by(u64::MAX, HOUSE, "set 2^64 - 1"),
+        fresh_by(2, frequency, "set 2 and f 55: the setting is told"),
+        fresh_by(2, hysteresis, "set 2 and hysteresis 6: the setting is told"),
     ];
-    for (set, words) in UNKNOWN {
-        cases.extend([
-            fresh_by(set, HOUSE, format!("{words}: refusal 1, at 8")),
-            fresh_by(set, frequency, format!("{words} and f 55: the setting is told")),
-            fresh_by(set, hysteresis, format!("{words} and hysteresis 6: the setting is told")),
-        ]);
-    }
     Section { name: "other-making", about: "fresh tables for a set; where it is unknown, zeros", cases }
 }
 
@@ -137,21 +128,17 @@ fn brim_by(set: u64, cell: usize) -> Table {
 
 pub fn unused() -> Section {
     let offered = |table: Table, words: &str| add(table, even(2, 1000), words);
-    let mut cases = vec![
+    let cases = vec![
         offered(brim_by(1, 0), "set 1, a sag in cell 0: sound"),
         offered(brim_by(1, 24), "in cell 24, the last: sound"),
         offered(brim_by(1, 25), "in cell 25, which is unused: unsound, though all adds up"),
         offered(brim_by(1, 39), "in cell 39"),
-        offered(with(brim_by(1, 24), &[(at::CELLS + 30, 1)]), "one too many, in cell 30"),
         offered(brim_by(0, 25), "set 0, the same numbers, a sag in cell 25: sound"),
         offered(brim_by(0, 39), "in cell 39: sound"),
+        offered(brim_by(2, 0), "set 2, and all else sound"),
+        offered(brim_by(u64::MAX, 0), "set 2^64 - 1"),
+        offered(with(fresh(&HOUSE, 0).1, &[(at::SET, 2)]), "set 2, and nothing in it"),
     ];
-    for (set, words) in UNKNOWN {
-        cases.extend([
-            offered(brim_by(set, 0), &format!("{words}, and all else sound")),
-            offered(with(fresh(&HOUSE, 0).1, &[(at::SET, set)]), &format!("{words}, and nothing in it")),
-        ]);
-    }
     Section { name: "other-unsound", about: "tables with a sag in an unused cell, and with an unknown set", cases }
 }
 

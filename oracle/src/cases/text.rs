@@ -180,8 +180,11 @@ fn cells_text(set: u64, cells: &[u64]) -> String {
     let last = used as usize - 1;
     let rises = cells[last] >= used && cells[last - 1] == cells[last] - 1;
     let first = cells[last].saturating_sub(used - 1);
-    let unused = if used < MOST { " ++ unused" } else { "" };
-    let from = if rises { format!("rising {used} {first}{unused}") } else { "none".to_string() };
+    let from = match rises {
+        true if used < MOST => format!("few {first}"),
+        true => format!("rising {used} {first}"),
+        false => "none".to_string(),
+    };
     let usual = |i: usize| if rises && i <= last { first + i as u64 } else { 0 };
     let differs = cells.iter().enumerate().filter(|&(i, &count)| count != usual(i));
     let cells = differs.fold(from, |cells, (i, count)| format!("put {i} {count} {}", argument(&cells)));
