@@ -1,10 +1,14 @@
 //! The second table of cases, crates/rules/specs/Cases.antt: the file is what the second program writes, its linear and its
-//! swift form and the proved library give the same answers, and the cases reach every corner that can be told from an answer.
+//! swift form and the proved library give the same answers, and the cases reach every corner that can be told from an answer, of
+//! each set of borders.
+use oracle::borders::SETS;
 use oracle::cases::{sections, text, Answer, Asked, Program, FILE, SECOND};
 use oracle::score::beside_the_steps;
 use oracle::site::at;
 use oracle::{fresh, plain, swift, Refused, Settings, Table, WORDS};
 use std::collections::BTreeSet;
+
+mod reach;
 
 const LINEAR: Program =
     Program { list: plain::list, add: plain::add, shortfalls: |s, samples| added(plain::add, s, samples), ..SECOND };
@@ -25,7 +29,7 @@ const PROVED: Program = Program {
 /// What a recording adds to a fresh table's shortfalls of a, b and c: the other programs have no straight sums, and these have to
 /// equal them.
 fn added(add: fn(&mut Table, &[i32]) -> Result<(), Refused>, s: &Settings, samples: &[i32]) -> [u64; 3] {
-    let mut table = fresh(s).1;
+    let mut table = fresh(s, 0).1;
     add(&mut table, samples).expect("an accepted recording");
     [0, 1, 2].map(|channel| table[at::PARTS + channel])
 }
@@ -74,10 +78,15 @@ struct Reached {
     kinds_and_seen: BTreeSet<(u64, u64)>,
     types: BTreeSet<u64>,
     reasons: BTreeSet<u64>,
-    rows: BTreeSet<u64>,
-    columns: BTreeSet<(u64, u64)>,
+    /// The set with a row, and with f and a column.
+    rows: BTreeSet<(u64, u64)>,
+    columns: BTreeSet<(u64, u64, u64)>,
     /// f, and how many half-cycles a sag that has a score lasts.
     lasting: BTreeSet<(u64, u64)>,
+    borders: reach::Reached,
+    /// Of tables that took a recording, and of such as did not: the set, and where one more sag was counted.
+    grown: BTreeSet<(u64, usize)>,
+    kept: BTreeSet<u64>,
     /// Which of a, b and c lack something, in a sag of a list and straight from the samples.
     lacking: BTreeSet<[bool; 3]>,
     straight: BTreeSet<[bool; 3]>,
@@ -98,18 +107,26 @@ impl Reached {
             (Asked::List { .. }, Answer::List { told: Err(refused), .. }) => {
                 self.refusals_of_list.insert(refused.number);
             }
-            (Asked::Add { .. }, Answer::Site { told: Err(refused), .. }) => {
+            (Asked::Add { table, .. }, Answer::Site { told: Ok(()), table: grown }) => {
+                let counted = (at::CELLS..=at::UNPLACED).filter(|&place| grown[place] > table[place]);
+                self.grown.extend(counted.map(|place| (grown[at::SET], place)));
+            }
+            (Asked::Add { table, .. }, Answer::Site { told: Err(refused), table: kept }) => {
                 self.refusals_of_add.insert(refused.number);
+                self.borders.note_table(table);
+                self.kept.insert(kept[at::SET]);
             }
             (Asked::Fresh { .. }, Answer::Site { told: Err(refused), .. }) => {
                 self.bad_settings.insert(refused.place);
             }
-            (Asked::Score { settings: Settings { f, .. }, event }, Answer::Judged { reason, cell, .. }) => {
+            (Asked::Score { settings, set, event }, Answer::Judged { reason, cell, .. }) => {
+                self.borders.note_score(settings, *set, event, (*reason, *cell));
                 self.reasons.insert(*reason);
                 if *reason == 0 {
-                    self.rows.insert(cell / 8);
-                    self.columns.insert((*f, cell % 8));
-                    self.lasting.insert((*f, event[2] - event[1]));
+                    let (f, width) = (settings.f, SETS[*set as usize].width());
+                    self.rows.insert((*set, cell / width));
+                    self.columns.insert((*set, f, cell % width));
+                    self.lasting.insert((f, event[2] - event[1]));
                 }
             }
             (Asked::Straight { .. }, Answer::Sums(sums)) => {
@@ -127,15 +144,16 @@ fn every_corner_is_reached() {
         reached.note(&asked, &SECOND.answer(&asked));
     }
     let kinds_and_seen = (1..=3).flat_map(|kind| (0..=3).map(move |seen| (kind, seen)));
-    let columns = [50, 60].into_iter().flat_map(|f| (0..8).map(move |column| (f, column)));
+    let of_sets = [(0, 8), (1, 5)].into_iter().flat_map(|(set, width)| (0..width).map(move |column| (set, column)));
+    let columns = of_sets.flat_map(|(set, column)| [(set, 50, column), (set, 60, column)]);
     // Refusal 5, more than 100,000 half-cycles, would take too long to compute there; a law has it.
     assert_eq!(reached.refusals_of_list, BTreeSet::from([1, 2, 3, 4, 6, 7]));
     assert_eq!(reached.refusals_of_add, BTreeSet::from([2, 3, 4, 6, 8, 9]));
-    assert_eq!(reached.bad_settings, (1..=7).collect());
+    assert_eq!(reached.bad_settings, (1..=8).collect());
     assert_eq!(reached.kinds_and_seen, kinds_and_seen.collect());
     assert_eq!(reached.types, (0..=6).collect());
     assert_eq!(reached.reasons, (0..=6).collect());
-    assert_eq!(reached.rows, (0..=4).collect());
+    assert_eq!(reached.rows, [0, 1].into_iter().flat_map(|set| (0..=4).map(move |row| (set, row))).collect());
     assert_eq!(reached.columns, columns.collect());
     let each_alone = [[true, false, false], [false, true, false], [false, false, true]];
     assert_eq!(
@@ -145,6 +163,11 @@ fn every_corner_is_reached() {
         reached.lacking
     );
     assert!(each_alone.iter().all(|one| reached.straight.contains(one)), "{:?}", reached.straight);
+    reached.borders.assert_scores();
+    reached.borders.assert_unsound();
+    let counted = |set: u64| reached.grown.iter().filter(|grown| grown.0 == set).count();
+    assert!(counted(0) > 5 && counted(1) > 5 && reached.grown.contains(&(1, at::UNPLACED)), "{:?}", reached.grown);
+    assert_eq!(reached.kept, BTreeSet::from([0, 1, 2, u64::MAX]));
     for lasts in [50, 60].into_iter().flat_map(|f| beside_the_steps(f).map(move |h| (f, h))) {
         assert!(reached.lasting.contains(&lasts), "{lasts:?}");
     }

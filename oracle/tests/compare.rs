@@ -8,6 +8,8 @@ use oracle::{plain, recording, settings, site, swift, Event, Refused, Settings, 
 use std::collections::BTreeSet;
 use std::process::Command;
 
+mod reach;
+
 /// The gate's seed; by hand, `compare --seed` tries others.
 const SEED: u64 = 20_260;
 
@@ -181,8 +183,9 @@ struct Reached {
     list_refusals: BTreeSet<u64>,
     add_refusals: BTreeSet<u64>,
     fresh_places: BTreeSet<u64>,
-    reasons: BTreeSet<u64>,
-    cells: BTreeSet<u64>,
+    borders: reach::Reached,
+    /// Of tables that took a recording: the set, and where one more sag was counted.
+    grown: BTreeSet<(u64, usize)>,
     kinds_and_seen: BTreeSet<(u64, u64)>,
     types: BTreeSet<u64>,
     samples_per_cycle: BTreeSet<u64>,
@@ -212,15 +215,17 @@ impl Reached {
             Case::Add { table, .. } => {
                 self.add_refusals.insert(first(0));
                 self.note_shortfalls(table);
+                self.borders.note_table(table);
+                let counted = (at::CELLS..=at::UNPLACED).filter(|&place| answer[2].1[place] > table[place]);
+                self.grown.extend(counted.map(|place| (table[at::SET], place)));
             }
             Case::Fresh { .. } => drop(self.fresh_places.insert(first(1))),
-            Case::Score { settings, event } => {
-                self.reasons.insert(first(0));
-                self.cells.insert(first(4));
+            Case::Score { settings, set, event } => {
+                self.borders.note_score(settings, *set, event, (first(0), first(4)));
                 if first(0) == 0 {
                     self.lasting.insert((settings.f, event[2] - event[1]));
                 }
-                self.note_parts(settings, event);
+                self.note_parts(settings, *set, event);
             }
         }
     }
@@ -236,11 +241,11 @@ impl Reached {
     }
 
     /// An event that nothing but its parts keeps from being one.
-    fn note_parts(&mut self, s: &Settings, event: &Event) {
+    fn note_parts(&mut self, s: &Settings, set: u64, event: &Event) {
         let [kind, .., shortfall, _, a, b, c] = *event;
         let mut mended = *event;
         mended[8..].copy_from_slice(&[shortfall, 0, 0]);
-        if oracle::reason(s, event) == 5 && oracle::reason(s, &mended) != 5 {
+        if oracle::reason(s, set, event) == 5 && oracle::reason(s, set, &mended) != 5 {
             self.parts_of_events.insert((kind, miss(shortfall, [a, b, c])));
         }
     }
@@ -286,9 +291,15 @@ fn the_cases_reach_every_corner() {
     }
     assert_eq!(reached.list_refusals, BTreeSet::from([0, 1, 2, 3, 4, 5, 6, 7]));
     assert_eq!(reached.add_refusals, BTreeSet::from([0, 2, 3, 4, 5, 6, 8, 9]));
-    assert_eq!(reached.fresh_places, (0..=7).collect());
-    assert_eq!(reached.reasons, (0..=6).collect());
-    assert_eq!(reached.cells, (0..=40).collect());
+    assert_eq!(reached.fresh_places, (0..=8).collect());
+    reached.borders.assert_scores();
+    reached.borders.assert_unsound();
+    for (set, cells) in [(0, 40), (1, 25)] {
+        assert!((0..cells).all(|cell| reached.borders.told.contains(&(set, 0, cell))), "set {set}");
+        let places = (0..cells as usize).map(|cell| at::CELLS + cell).chain([at::UNPLACED]);
+        let grown = reached.grown.iter().filter(|grown| grown.0 == set).map(|grown| grown.1);
+        assert_eq!(grown.collect::<BTreeSet<usize>>(), places.collect(), "set {set}");
+    }
     assert_eq!(reached.kinds_and_seen, (1..=3).flat_map(|kind| (0..=3).map(move |seen| (kind, seen))).collect());
     assert_eq!(reached.types, (0..=6).collect());
     assert_eq!(reached.samples_per_cycle, (4..=256).map(|half| 2 * half).collect());

@@ -6,6 +6,9 @@ use oracle::{fresh, plain, swift, Refused, Settings, Table, TABLE, WORDS};
 
 const R: i32 = 1_000;
 
+/// The sets of borders.
+const SETS: [u64; 2] = [0, 1];
+
 fn settings(n: u64) -> Settings {
     Settings { n, r: R as u64, f: 50, sag: 90, interruption: 10, swell: 110, hysteresis: 2 }
 }
@@ -45,10 +48,13 @@ fn add(table: &Table, samples: &[i32], what: &str) -> Result<(), Refused> {
     expected.0
 }
 
-/// Both questions, with room enough and a fresh table: the number of the refusal, or 0.
+/// Both questions, with room enough and a fresh table for each set: the number of the refusal, or 0.
 fn ask(s: &Settings, samples: &[i32], what: &str) -> u64 {
-    let (listed, added) = (list(s, samples, 400, what), add(&fresh(s).1, samples, what));
-    assert_eq!(listed.err(), added.err(), "N {}, {what}", s.n);
+    let listed = list(s, samples, 400, what);
+    for set in SETS {
+        let added = add(&fresh(s, set).1, samples, &format!("{what}, set {set}"));
+        assert_eq!(listed.err(), added.err(), "N {}, {what}, set {set}", s.n);
+    }
     listed.map_or_else(|refused| refused.number, |_| 0)
 }
 
@@ -170,19 +176,58 @@ fn tables_full_and_unsound() {
     let halves = oracle::recording::half_cycles(&s, &samples);
     let mut bad = samples.clone();
     bad[5] = 100_001;
-    for over in 0..=2 {
-        let mut table = fresh(&s).1;
+    for (set, over) in SETS.into_iter().flat_map(|set| [(set, 0), (set, 1), (set, 2)]) {
+        let mut table = fresh(&s, set).1;
         (table[at::TOTAL], table[at::HEALTHY]) = (FULLEST - halves + over, FULLEST - halves + over);
         let full = (over > 0).then_some(Refused { number: 8, place: halves - over });
         assert_eq!(add(&table, &samples, &format!("{over} too full")).err(), full);
         assert_eq!(add(&table, &bad, "bad and full"), Err(Refused { number: 6, place: 5 }));
     }
-    let mut grown = fresh(&s).1;
+    for set in SETS {
+        let mut grown = fresh(&s, set).1;
+        oracle::add(&mut grown, &samples).unwrap();
+        assert_eq!(add(&grown, &samples, "a table that has grown"), Ok(()));
+        for word in (at::TOTAL..at::INTERRUPTIONS).chain(at::SHORTFALL..TABLE) {
+            let mut unsound = grown;
+            unsound[word] += 1;
+            assert_unsound(&unsound, &bad, &format!("word {word}, set {set}"));
+        }
+    }
+}
+
+fn assert_unsound(table: &Table, samples: &[i32], what: &str) {
+    assert_eq!(add(table, samples, what), Err(Refused { number: 9, place: 0 }), "{what}");
+}
+
+/// One sag, moved from cell to cell: those beyond the last of its set are unused. The place after the fortieth is the unplaced.
+#[test]
+fn a_sag_in_each_cell() {
+    let s = settings(8);
+    let samples = overlapping(&s);
+    for (set, used) in SETS.into_iter().zip([40, 25]) {
+        for cell in 0..=40 {
+            let mut table = fresh(&s, set).1;
+            for place in [at::TOTAL, at::HEALTHY, at::SAGS, at::CELLS + cell] {
+                table[place] = 1;
+            }
+            let what = format!("a sag in cell {cell}, set {set}");
+            if cell < used || at::CELLS + cell == at::UNPLACED {
+                assert_eq!(add(&table, &samples, &what), Ok(()), "{what}");
+            } else {
+                assert_unsound(&table, &samples, &what);
+            }
+        }
+    }
+}
+
+#[test]
+fn tables_of_an_unknown_set() {
+    let s = settings(8);
+    let samples = overlapping(&s);
+    let mut grown = fresh(&s, 1).1;
     oracle::add(&mut grown, &samples).unwrap();
-    assert_eq!(add(&grown, &samples, "a table that has grown"), Ok(()));
-    for word in (at::TOTAL..at::INTERRUPTIONS).chain(at::SHORTFALL..TABLE) {
-        let mut unsound = grown;
-        unsound[word] += 1;
-        assert_eq!(add(&unsound, &bad, &format!("word {word}")), Err(Refused { number: 9, place: 0 }));
+    for set in (2..=300).chain([1 << 16, 1 << 32, (1 << 32) + 1, 1 << 63, u64::MAX]) {
+        grown[at::SET] = set;
+        assert_unsound(&grown, &samples, &format!("set {set}"));
     }
 }

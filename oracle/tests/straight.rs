@@ -1,5 +1,5 @@
-//! The shortfall of each channel straight from the samples: whatever recordings a table has taken, its three sums are what each
-//! channel lacks over every half-cycle that lies in a sag, with no use of the list. Held against the second program, its linear and
+//! The shortfall of each channel straight from the samples: whatever recordings a table has taken by either set of borders, its three
+//! sums are what each channel lacks over every half-cycle that lies in a sag, with no use of the list. Held against the second program, its linear and
 //! its swift form, and the proved library.
 use oracle::compare::draw_recordings;
 use oracle::recording::MISSING;
@@ -27,14 +27,14 @@ fn assert_straight(s: &Settings, recordings: &[Vec<i32>], what: &str) -> [u64; 3
     let accepted = recordings.iter().filter(|samples| oracle::recording::check(s, samples).is_ok());
     let sums = accepted
         .fold([0; 3], |sums: [u64; 3], samples| [0, 1, 2].map(|channel| sums[channel] + straight(s, samples, channel)));
-    for (program, add) in PROGRAMS {
-        let mut table = fresh(s).1;
+    for (set, (program, add)) in PROGRAMS.into_iter().flat_map(|program| [(0, program), (1, program)]) {
+        let mut table = fresh(s, set).1;
         for samples in recordings {
             // A refused recording leaves the table as it was.
             let _ = add(&mut table, samples);
         }
-        assert_eq!(table[at::PARTS..], sums, "{program}, {what}");
-        assert_eq!(table[at::SHORTFALL], sums.iter().sum::<u64>(), "{program}, {what}");
+        assert_eq!(table[at::PARTS..], sums, "{program}, set {set}, {what}");
+        assert_eq!(table[at::SHORTFALL], sums.iter().sum::<u64>(), "{program}, set {set}, {what}");
     }
     sums
 }

@@ -5,7 +5,7 @@ use oracle::{Event, Refused, Score, Settings, WORDS};
 const SETTINGS: Settings = Settings { n: 128, r: 10_000, f: 50, sag: 90, interruption: 10, swell: 110, hysteresis: 2 };
 
 type Lister = fn(&Settings, &[i32], &mut [u64]) -> Result<u64, Refused>;
-type Scorer = fn(&Settings, &Event) -> Result<Score, u64>;
+type Scorer = fn(&Settings, u64, &Event) -> Result<Score, u64>;
 
 const LISTERS: [(&str, Lister); 4] = [
     ("second program", oracle::list),
@@ -14,7 +14,13 @@ const LISTERS: [(&str, Lister); 4] = [
     ("proved library", host::list),
 ];
 
-const SCORERS: [(&str, Scorer); 2] = [("second program", oracle::score), ("proved library", host::score)];
+/// A score is the same by either set of borders.
+const SCORERS: [(&str, u64, Scorer); 4] = [
+    ("second program", 0, oracle::score),
+    ("second program", 1, oracle::score),
+    ("proved library", 0, host::score),
+    ("proved library", 1, host::score),
+];
 
 /// The lines of a file of vectors, in words, without its comments.
 fn lines(file: &str) -> Vec<Vec<&str>> {
@@ -46,8 +52,8 @@ fn severities_of_the_guide() {
         let milliseconds: u64 = words[1].parse().unwrap();
         let (pu, printed) = (number(words[2]), number(words[3]));
         for h in [milliseconds / 10, milliseconds.div_ceil(10)] {
-            for (program, score) in SCORERS {
-                let score = score(&SETTINGS, &sag(&SETTINGS, h, pu));
+            for (program, set, score) in SCORERS {
+                let score = score(&SETTINGS, set, &sag(&SETTINGS, h, pu));
                 match words[4..] {
                     ["same"] => assert_near(score, printed, 0.005, program, &words),
                     ["reason", why] => assert_eq!(score, Err(why.parse().unwrap()), "{program} {words:?}"),
@@ -80,8 +86,8 @@ fn energy_of_the_guide() {
         for (lister, list) in LISTERS {
             let mut event = [0; WORDS];
             assert_eq!(list(&s, &samples, &mut event), Ok(1), "{lister}");
-            for (program, score) in SCORERS {
-                let energy = score(&s, &event).unwrap().energy;
+            for (program, set, score) in SCORERS {
+                let energy = score(&s, set, &event).unwrap().energy;
                 assert_eq!(energy, number(words[4]).floor() / 1000.0, "{lister}, {program}");
             }
         }
@@ -136,7 +142,7 @@ fn assert_sag_of(sag: Event, words: &[&str], program: &str) {
     let retained = if is_c { (0.25 + 0.75 * v * v).sqrt() } else { number(words[2]) };
     let severity = if is_c { 2.0 * (1.0 - retained) } else { number(words[3]) };
     assert!((sag[5] as f64 / 1000.0 - retained).abs() < 0.00051, "{program}: retained {} of {words:?}", sag[5]);
-    for (scorer, score) in SCORERS {
-        assert_near(score(&SETTINGS, &sag), severity, 0.00102, scorer, words);
+    for (scorer, set, score) in SCORERS {
+        assert_near(score(&SETTINGS, set, &sag), severity, 0.00102, scorer, words);
     }
 }
