@@ -1,6 +1,7 @@
 //! Event words for the comparison: from real lists, changed by one, on every border, and anything at all.
+use super::borders::{in_a_column, in_a_row};
 use super::{parts, recordings};
-use crate::borders::{all_columns, all_rows};
+use crate::borders::{all_columns, all_rows, of};
 use crate::random::Random;
 use crate::score::{beside_the_steps, retained, sum_at};
 use crate::settings::{first_bad, reference};
@@ -18,10 +19,12 @@ pub fn listed(s: &Settings, samples: &[i32]) -> Vec<Event> {
     words.chunks_exact(WORDS).map(|words| words.try_into().unwrap()).collect()
 }
 
-/// Any eleven numbers, under settings that may be bad; with them the near blocks of the recording that they are from.
-pub fn any(random: &mut Random, s: &Settings) -> (Event, u64) {
+/// Any eleven numbers, under settings that may be bad and a set of borders that may be unknown; with them the near blocks of the
+/// recording that they are from.
+pub fn any(random: &mut Random, s: &Settings, set: u64) -> (Event, u64) {
     let (mut event, near) = match random.below(8) {
         0 => real(random, s),
+        1 => (placed(random, s, set), 0),
         7 => (wild(random), 0),
         _ => (bordering(random, s), 0),
     };
@@ -41,6 +44,15 @@ fn real(random: &mut Random, s: &Settings) -> (Event, u64) {
     } else {
         (random.pick(&events), recording.near)
     }
+}
+
+/// A sag in any cell of the set, on a border of its row and of its column or just beyond it.
+fn placed(random: &mut Random, s: &Settings, set: u64) -> Event {
+    let Some(borders) = of(set).filter(|_| first_bad(s).is_none()) else { return bordering(random, s) };
+    let (level, beside) = in_a_row(random, borders.rows);
+    let extreme = sum_at(s, level).saturating_add_signed(beside);
+    let h = in_a_column(random, s, borders.columns);
+    [1, 7, 7 + h, 3, extreme, retained(s, extreme), 0, random.below(7), 0, 0, 0]
 }
 
 /// An event with each number on a border, beside it, or within its bounds.

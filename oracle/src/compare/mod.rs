@@ -1,6 +1,7 @@
 //! The hunt for differences: cases drawn at random from a seed, both programs asked, each answer and all lent memory
 //! compared number for number.
 mod answers;
+mod borders;
 mod events;
 mod parts;
 mod recordings;
@@ -153,14 +154,14 @@ fn draw_room(random: &mut Random, s: &Settings, samples: &[i32]) -> usize {
 fn draw_add(random: &mut Random, number: u64) -> Drawn {
     let drawn = settings::good(random, number);
     let (settings, Recording { samples, near }) = draw_recording(random, drawn);
-    let set = settings::known_set(random);
+    let set = borders::known(random);
     let table = tables::any(random, &settings, set, &samples);
     Drawn { case: Case::Add { table, samples }, near }
 }
 
 /// A single sag to be placed by the table's borders, under a sag threshold that leaves none of its rows empty.
 fn draw_placed(random: &mut Random, number: u64) -> Drawn {
-    let (set, sag) = (settings::known_set(random), random.between(90, 95));
+    let (set, sag) = (borders::known(random), random.between(90, 95));
     let settings = Settings { n: random.pick(&[8, 8, 10, 16]), sag, ..settings::good(random, number) };
     let Recording { samples, near } = recordings::one_sag(random, &settings, &SETS[set as usize]);
     let table = tables::any(random, &settings, set, &samples);
@@ -168,14 +169,14 @@ fn draw_placed(random: &mut Random, number: u64) -> Drawn {
 }
 
 fn draw_fresh(random: &mut Random, number: u64) -> Drawn {
-    let (settings, set) = (settings::good_or_bad(random, number), settings::any_set(random));
+    let (settings, set) = (settings::good_or_bad(random, number), borders::any(random));
     Drawn { case: Case::Fresh { settings, set }, near: 0 }
 }
 
 fn draw_score(random: &mut Random, number: u64) -> Drawn {
-    let settings = settings::mostly_good(random, number);
-    let (event, near) = events::any(random, &settings);
-    Drawn { case: Case::Score { settings, set: settings::any_set(random), event }, near }
+    let (settings, set) = (settings::mostly_good(random, number), borders::any(random));
+    let (event, near) = events::any(random, &settings, set);
+    Drawn { case: Case::Score { settings, set, event }, near }
 }
 
 /// How many differing words of one answer are printed.

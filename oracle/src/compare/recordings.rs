@@ -1,6 +1,7 @@
 //! Recordings for the comparison: levels on and beside each border, three-phase sines with sags of every type, noise,
 //! gaps, samples out of range, and lengths that are turned away.
-use crate::borders::{all_rows, Border, Borders};
+use super::borders::{in_a_column, in_a_row};
+use crate::borders::{all_rows, Borders};
 use crate::random::Random;
 use crate::recording::MISSING;
 use crate::score::sum_at;
@@ -105,24 +106,6 @@ pub fn one_sag(random: &mut Random, s: &Settings, borders: &Borders) -> Recordin
     }
     let others = if random.once_in(2) { low.clone() } else { at_the_reference(s, lasts as usize + 4) };
     interleaved(random, [low, others.clone(), others])
-}
-
-/// A level on the border of a row, one unit below it, or one above the border before.
-fn in_a_row(random: &mut Random, rows: &[u64]) -> (u64, i64) {
-    let row = random.below(rows.len() as u64 + 1) as usize;
-    match rows.get(row) {
-        Some(percent) if row == 0 || random.once_in(2) => (20 * percent, random.pick(&[-1, 0])),
-        _ => (20 * rows[row - 1], 1),
-    }
-}
-
-/// The last duration of a column, or the first.
-fn in_a_column(random: &mut Random, s: &Settings, columns: &[Border]) -> u64 {
-    let column = random.below(columns.len() as u64 + 1) as usize;
-    match columns.get(column) {
-        Some(border) if column == 0 || random.once_in(2) => border.first(s.f) - 1,
-        _ => columns[column - 1].first(s.f),
-    }
 }
 
 /// A run of blocks, each channel's level held for a few blocks and then drawn anew from the borders and beside them.

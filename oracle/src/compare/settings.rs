@@ -1,5 +1,4 @@
-//! Settings for the comparison: good ones over their whole ranges, and bad ones just outside or far away; sets of borders likewise.
-use crate::borders::SETS;
+//! Settings for the comparison: good ones over their whole ranges, and bad ones just outside or far away.
 use crate::random::Random;
 use crate::Settings;
 
@@ -76,26 +75,5 @@ fn outside(random: &mut Random, i: usize) -> u64 {
         _ if i == 0 => 2 * random.between(4, 255) + 1,
         _ if i == 2 => random.between(51, 59),
         _ => high + random.between(1, 1_000),
-    }
-}
-
-/// A set of borders that there is.
-pub fn known_set(random: &mut Random) -> u64 {
-    random.below(SETS.len() as u64)
-}
-
-/// One that there is not: the first beyond, one that a narrower number would take for another, or any.
-pub fn unknown_set(random: &mut Random) -> u64 {
-    let first = SETS.len() as u64;
-    let anything = random.any_size().max(first);
-    random.pick(&[first, first, 1 << 8, (1 << 16) + 1, 1 << 32, (1 << 32) + 1, 1 << 63, u64::MAX, anything])
-}
-
-/// Mostly one that there is.
-pub fn any_set(random: &mut Random) -> u64 {
-    if random.once_in(12) {
-        unknown_set(random)
-    } else {
-        known_set(random)
     }
 }

@@ -1,6 +1,6 @@
 //! Site tables for the comparison: fresh, grown, sound to the brim, and unsound by one in each condition.
-use super::{parts, settings};
-use crate::borders::{self, MOST};
+use super::{borders, parts};
+use crate::borders::{of, MOST};
 use crate::random::Random;
 use crate::recording;
 use crate::settings::reference;
@@ -53,7 +53,7 @@ fn place(random: &mut Random, table: &mut Table) {
 
 /// How many cells a table's set has.
 fn used(table: &Table) -> u64 {
-    borders::of(table[at::SET]).map_or(MOST, |borders| borders.cells())
+    of(table[at::SET]).map_or(MOST, |borders| borders.cells())
 }
 
 /// The table with this shortfall, and these for a, b and c.
@@ -126,7 +126,7 @@ fn broken(random: &mut Random, s: &Settings, mut table: Table) -> Table {
         }
         10 => table = short(table, table[at::SHORTFALL], parts::one_off(random, table[at::SHORTFALL])),
         11 => table[at::SHORTFALL] = table[at::SHORTFALL].wrapping_sub(1),
-        12 => table[at::SET] = settings::unknown_set(random),
+        12 => table[at::SET] = borders::unknown(random),
         13 | 14 => astray(random, &mut table),
         _ => {
             let i = random.between(at::TOTAL as u64, TABLE as u64 - 1) as usize;
