@@ -1,5 +1,6 @@
 //! libFuzzer's entry: bytes become a case, and the second program judges the proved library on it. The instrumentation
 //! sits in the second program, so the fuzzer looks for bytes that take a new way through the rules.
+use oracle::borders::{all_columns, all_rows, SETS};
 use oracle::compare::{differs, explain, Case};
 use oracle::recording::MISSING;
 use oracle::score::{beside_the_steps, retained, sum_at};
@@ -54,30 +55,43 @@ fn case(bytes: &mut Bytes) -> Case {
             Case::List { settings, samples: samples(bytes, &settings), room }
         }
         2 => {
-            let table = table(bytes, &settings);
+            let set = set(bytes);
+            let table = table(bytes, &settings, set);
             Case::Add { table, samples: samples(bytes, &settings) }
         }
         _ => {
             // Among any words an event is found by chance once in a while only.
             let likely = asked >= 128 && oracle::settings::first_bad(&settings).is_none();
             let event = if likely { near_event(bytes, &settings) } else { [0; WORDS].map(|_: u64| bytes.word()) };
-            Case::Score { settings, event }
+            Case::Score { settings, set: set(bytes), event }
         }
     }
 }
 
-/// Numbers that are an event or nearly one: each within its bounds or one beyond, the end beside a step of the curve or
-/// anywhere, the extreme beside a whole thousandth or a half, or anywhere.
+/// A set of borders: from one byte, mostly such as there are.
+fn set(bytes: &mut Bytes) -> u64 {
+    match bytes.byte() {
+        byte @ 0..=223 => byte % SETS.len() as u64,
+        byte @ 224..=239 => byte - 224 + SETS.len() as u64,
+        _ => bytes.word(),
+    }
+}
+
+/// Numbers that are an event or nearly one: each within its bounds or one beyond, the end beside a step of the curve or a
+/// column's border, or anywhere, the extreme beside a whole thousandth or a half, beside a row's border, or anywhere.
 fn near_event(bytes: &mut Bytes, s: &Settings) -> Event {
     let kind = [1, 1, 1, 1, 2, 3, 0, 4][bytes.byte() as usize % 8];
     let seen = [3, 3, 3, 3, 0, 1, 2, 4][bytes.byte() as usize % 8];
     let choice = bytes.byte() as usize;
-    let h = if choice < 128 { beside_the_steps(s.f)[choice % 8] } else { bytes.half_word() };
+    let columns = all_columns(s.f).into_iter().flat_map(|first| [first - 1, first]);
+    let lasts: Vec<u64> = columns.chain(beside_the_steps(s.f)).collect();
+    let h = if choice < 128 { lasts[bytes.byte() as usize % lasts.len()] } else { bytes.half_word() };
     let start = bytes.half_word();
     let most = s.n * 10_000_000_000;
-    let extreme = match choice / 8 % 4 {
+    let extreme = match choice / 8 % 5 {
         0 => bytes.word() % (s.n * s.r * s.r),
         1 => bytes.word() % (most + 2),
+        4 => row(bytes, s),
         beside => (sum_at(s, bytes.word() % (200_000_000 / s.r + 1)) + beside as u64).saturating_sub(3).min(most),
     };
     let most = 3 * s.n * s.r * s.r * h + 2;
@@ -90,6 +104,12 @@ fn near_event(bytes: &mut Bytes, s: &Settings) -> Event {
     };
     let [a, b, c] = parts(bytes, shortfall);
     [kind, start, start + h, seen, extreme, retained, shortfall, class, a, b, c]
+}
+
+/// A sum on a row's border, one unit below it or one above.
+fn row(bytes: &mut Bytes, s: &Settings) -> u64 {
+    let (rows, choice) = (all_rows(), bytes.byte() as usize);
+    (sum_at(s, 20 * rows[choice % rows.len()]) + choice as u64 / 8 % 3).saturating_sub(1)
 }
 
 /// Three parts of a shortfall, from a few bytes: mostly such as make it up, else one unit off, or right only modulo 2^64.
@@ -129,16 +149,19 @@ fn settings(bytes: &mut Bytes) -> Settings {
     }
 }
 
-/// A fresh table, or one with half-cycles and a shortfall in three parts, and then a few words overwritten. Three words that add
-/// up to a fourth would hardly be met by chance.
-fn table(bytes: &mut Bytes, s: &Settings) -> Table {
-    let mut table = oracle::fresh(s).1;
+/// A fresh table, or one with half-cycles, sags in one cell and a shortfall in three parts, and then a few words overwritten. Words
+/// that add up to another would hardly be met by chance. The set may be unknown.
+fn table(bytes: &mut Bytes, s: &Settings, set: u64) -> Table {
+    let mut table = oracle::fresh(s, 0).1;
+    table[at::SET] = set;
     let manner = bytes.byte();
     if manner >= 128 && oracle::settings::first_bad(s).is_none() {
         let total = bytes.half_word();
         let whole = bytes.word() % (3 * s.n * s.r * s.r * total + 2);
         (table[at::TOTAL], table[at::HEALTHY], table[at::SHORTFALL]) = (total, total, whole);
         table[at::PARTS..].copy_from_slice(&parts(bytes, whole));
+        let (cell, sags) = (bytes.byte() as usize % (at::UNPLACED - at::CELLS + 1), bytes.byte());
+        (table[at::CELLS + cell], table[at::SAGS]) = (sags, sags);
     }
     for _ in 0..manner % 16 {
         let i = bytes.byte() as usize % table.len();
@@ -165,11 +188,11 @@ fn level(bytes: &mut Bytes, s: &Settings, any: bool) -> i32 {
         swell.saturating_sub(h),
         100,
         100,
-        100,
         0,
         10,
         40,
         70,
+        80,
         85,
         50,
         120,
