@@ -19,9 +19,10 @@ use Rattle.rules.specs.Recorder.{firstBad, badSetting, settingsGood}
 use Rattle.rules.specs.Halves.{halvesOf, anyMissing, squares, sumsAt, halfAt, full}
 use Rattle.rules.specs.Events.{carries, inRun, inEvent, starts, endOf, seenOf, extremeOf, earliest, climb, retainedOf, shortsOf, sixSums, typeOf}
 use Rattle.rules.specs.EventList.{eventFrom, eventAt, eventsOf}
-use Rattle.rules.specs.Scores.{inBounds, sagGood, isEvent, reasonOf, scoring}
-use Rattle.rules.specs.Site.{rowOf, columnOf, cellOf, isHealthy, isDisturbed, isUnknown, isPlaced, isUnplaced, sagCell, sagSum, sagShort, grown, isUnsound}
-use Rattle.rules.specs.Refusals.{numberOf, placeIn, recordingCheck, settingsCheck, roomCheck, listCheck, listed, written, freshened, soundCheck, fullCheck, addCheck, added}
+use Rattle.rules.specs.Borders.{knownSet, bordersOf, rowOf, columnOf}
+use Rattle.rules.specs.Scores.{inBounds, sagGood, isEvent, reasonOf, reasonBy, scoring, scoringBy}
+use Rattle.rules.specs.Site.{cellOf, isHealthy, isDisturbed, isUnknown, isPlaced, isUnplaced, sagCell, sagSum, sagShort, grown, isUnsound}
+use Rattle.rules.specs.Refusals.{numberOf, placeIn, recordingCheck, settingsCheck, setCheck, roomCheck, listCheck, listed, written, freshened, soundCheck, fullCheck, addCheck, added}
 use Rattle.rules.specs.declared.Settings.{Settings}
 use Rattle.rules.specs.declared.Event.{Event}
 use Rattle.rules.specs.declared.Table.{Table}
@@ -1802,5 +1803,5 @@ cases =
     ++ rooms ++ order
 
 case-answers : map asked-again cases ≡ cases
-unfolding answerTo asked-again cases sags interruptions swells overlaps marks gaps types nearest durations depths energies not-events parts-of-events making sound growing parts-of-tables parts-of-recordings other-columns other-rows other-known other-unscored other-making other-unsound other-growing lengths samples rooms order firstBad badSetting settingsGood halvesOf anyMissing squares sumsAt halfAt full carries inRun inEvent starts endOf seenOf extremeOf earliest climb retainedOf shortsOf sixSums typeOf eventFrom eventAt eventsOf inBounds sagGood isEvent reasonOf scoring rowOf columnOf cellOf isHealthy isDisturbed isUnknown isPlaced isUnplaced sagCell sagSum sagShort grown isUnsound recordingCheck settingsCheck roomCheck listCheck listed written freshened soundCheck fullCheck addCheck added div ofInt ofBits
+unfolding answerTo asked-again cases sags interruptions swells overlaps marks gaps types nearest durations depths energies not-events parts-of-events making sound growing parts-of-tables parts-of-recordings other-columns other-rows other-known other-unscored other-making other-unsound other-growing lengths samples rooms order firstBad badSetting settingsGood halvesOf anyMissing squares sumsAt halfAt full carries inRun inEvent starts endOf seenOf extremeOf earliest climb retainedOf shortsOf sixSums typeOf eventFrom eventAt eventsOf inBounds sagGood isEvent reasonOf reasonBy scoring scoringBy knownSet bordersOf rowOf columnOf cellOf isHealthy isDisturbed isUnknown isPlaced isUnplaced sagCell sagSum sagShort grown isUnsound recordingCheck settingsCheck setCheck roomCheck listCheck listed written freshened soundCheck fullCheck addCheck added div ofInt ofBits
 case-answers = refl
