@@ -16,7 +16,9 @@ use Rattle.rules.specs.Recorder.{within, settingsGood}
 use Rattle.rules.specs.Halves.{halfAt, halvesOf, known, full, below, someChannel}
 use Rattle.rules.specs.Events.{begins, ends, inEvent, isRun, starts, endOf, startSeen, endSeen, seenOf, least, levelBy, level, worse, worst, extremeOf, earliest, retainedOf, shortOf, shorts, sumFrom, shortsOf, three, sixSums, typeOf}
 use Rattle.rules.specs.EventList.{kindNumber, eventFrom, eventsOf}
-use Rattle.rules.specs.Scores.{inBounds, isSag, sagGood, otherGood, isEvent, unseenOf, reasonOf, scoreOf, scoring}
+use Rattle.rules.specs.Scores.{inBounds, isSag, sagGood, otherGood, isEvent, unseenOf, reasonOf, reasonBy, scoreOf, scoring, scoringBy}
+use Rattle.rules.specs.Borders.{knownSet}
+use Rattle.rules.specs.Site.{cellOf}
 use Rattle.rules.specs.Refusals.{recordingCheck}
 use Rattle.rules.specs.Demands.{Good, AcceptedRecording, Scorable}
 use Rattle.rules.specs.declared.Settings.{Settings}
@@ -287,3 +289,35 @@ module _ (s : Settings) (xs : List ℤ) (g : settingsGood s ≡ true) (ok : reco
   pub other-no-score : isSag e ≡ false → scoring s e ≡ Unscored 4
   unfolding scoring reasonOf
   other-no-score other = rw (g, every-event-passes, other)
+
+-- ---- as a host is told that hands over a set of borders
+
+module _ (s : Settings) (set : ℕ) (e : Event) where
+  -- THE LAW: under a known set all is as without one; an unknown one is reason 6, no score, and cell 40
+  pub under-known-set : knownSet set ≡ true → (reasonBy s set e ≡ reasonOf s e) × (scoringBy s set e ≡ scoring s e)
+  unfolding reasonBy scoringBy
+  under-known-set k = (rw k, rw k)
+
+  pub under-unknown-set : knownSet set ≡ false → (reasonBy s set e ≡ 6) × (scoringBy s set e ≡ Unscored 6) × (cellOf s set e ≡ 40)
+  unfolding reasonBy scoringBy cellOf
+  under-unknown-set k = (rw k, rw k, rw k)
+
+  -- what has no reason against it has a known set
+  pub no-reason : reasonBy s set e ≡ 0 → (knownSet set ≡ true) × (reasonOf s e ≡ 0)
+  unfolding reasonBy
+  no-reason h = go (knownSet set) refl h
+    where
+      go : (k : Bool) → knownSet set ≡ k → cond k (reasonOf s e) 6 ≡ 0 → (knownSet set ≡ true) × (reasonOf s e ≡ 0)
+      go true k q = (k, q)
+      go false k q = absurd (omega arith)
+
+  -- the reason decides
+  pub by-reason : scoringBy s set e ≡ cond (eqb (reasonBy s set e) 0) (Scored (scoreOf s e)) (Unscored (reasonBy s set e))
+  unfolding reasonBy scoringBy scoring
+  by-reason = go (knownSet set)
+    where
+      go : (k : Bool)
+          → cond k (cond (eqb (reasonOf s e) 0) (Scored (scoreOf s e)) (Unscored (reasonOf s e))) (Unscored 6)
+          ≡ cond (eqb (cond k (reasonOf s e) 6) 0) (Scored (scoreOf s e)) (Unscored (cond k (reasonOf s e) 6))
+      go true = refl
+      go false = refl

@@ -1,21 +1,15 @@
 -- Whole numbers as floats, and milliseconds without a product that wraps. Assumes nothing.
-use Prim.Native.Nat.{ℕ, suc, _+_, _*_, _/_, _%_, _^_, _≤_, _<_}
+use Prim.Native.Nat.{ℕ, _+_, _*_, _/_, _%_, _^_, _≤_, _<_}
 use mathlib.Core.Path.{_≡_, refl, sym, ap, _∙_}
-use mathlib.Core.Bool.{Bool, true, false, not, cond}
-use mathlib.Core.List.{List, [], _∷_, map}
+use mathlib.Core.Bool.{Bool, true, false, cond}
 use native.Mathlib.Nat.{mul-le-mul, div-lt-iff-lt-mul, mod-lt, div-add-mod', mul-assoc, mul-comm, mul-add-div-right}
-use native.Mathlib.Numerals.{add-one}
 use native.Mathlib.Omega.{arith}
-use borrow.Author.Tests.{leb-true, leb-false, lt-ltb, le-ltb}
-use lib.Dec.{T, leb, ltb, le→leb, leb·suc-suc, lit≤}
+use lib.Dec.{T, leb, le→leb, lit≤}
 use lib.IntN.{pos}
 use lib.Ieee.{binary64, inFloat, ofBits, ofInt}
-use lib.ListN.{length, getD, drop, drop-of-length-le}
-use lib.Seq.{drop-cons}
 use Rattle.rules.specs.declared.Settings.{Settings}
-use Rattle.rules.specs.Halves.{full, atMost}
+use Rattle.rules.specs.Halves.{full}
 use Rattle.rules.specs.Scores.{curveOf}
-use Rattle.rules.specs.Site.{placeOf, rowBorders, rowOf, columnBorders, columnOf}
 use Rattle.rules.specs.Demands.{Good}
 use Rattle.rules.proofs.Ranges.{full-least, full-high}
 
