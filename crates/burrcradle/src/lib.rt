@@ -1,4 +1,5 @@
-// The boundary for C and Rust. Settings are seven numbers, an event is eleven and a site table 59, in the order of the rules.
+// The boundary for C and Rust. Settings are seven numbers, a set of borders is one, an event is eleven and a site table 60, in the order of
+// the rules.
 use rules::Listed;
 use rules::Scoring;
 use words::event;
@@ -11,13 +12,13 @@ use words::table_of;
 use words::words_of;
 ghost use mathlib.Core.Path.{_≡_};
 ghost use lib.ListN.{length};
-ghost use Rattle.rules.specs.Scores.{reasonOf, scoring, reasonNumber};
+ghost use Rattle.rules.specs.Scores.{reasonBy, scoringBy, reasonNumber};
 ghost use Rattle.rules.specs.Site.{cellOf};
 ghost use Rattle.rules.specs.Refusals.{listed, written, freshened, added};
 ghost use Rattle.words.specs.Numbers.{settingsFrom, eventWith, severityAfter, energyAfter, numberOfListed, answerOfListed, numberOfTaken, placeOfTaken};
 ghost use Rattle.words.specs.Words.{tableFrom, tableWords};
 
-// Why the event has no score: 0 where it has one.
+// Why the event has no score under the set of borders: 0 where it has one.
 #[no_mangle]
 pub extern "C" fn burr_reason(
     n: u64,
@@ -27,6 +28,7 @@ pub extern "C" fn burr_reason(
     interruption: u64,
     swell: u64,
     hysteresis: u64,
+    set: u64,
     kind: u64,
     start: u64,
     end: u64,
@@ -39,7 +41,7 @@ pub extern "C" fn burr_reason(
     b: u64,
     c: u64,
 ) -> u64
-    ensures { λ x. ⌜ x ≡ reasonOf (settingsFrom n r f sag interruption swell hysteresis) (eventWith kind start end seen extreme retained shortfall class a b c) ⌝ }
+    ensures { λ x. ⌜ x ≡ reasonBy (settingsFrom n r f sag interruption swell hysteresis) set (eventWith kind start end seen extreme retained shortfall class a b c) ⌝ }
 {
     let s = settings(n, r, f, sag, interruption, swell, hysteresis);
     let e = event(
@@ -55,10 +57,10 @@ pub extern "C" fn burr_reason(
         b,
         c,
     );
-    score::reason(s, e)
+    score::reason(s, set, e)
 }
 
-// The event's cell: 40 where it has no score.
+// The event's cell by the set of borders: one above the last where it has no score, and 40 where there is no such set.
 #[no_mangle]
 pub extern "C" fn burr_cell(
     n: u64,
@@ -68,6 +70,7 @@ pub extern "C" fn burr_cell(
     interruption: u64,
     swell: u64,
     hysteresis: u64,
+    set: u64,
     kind: u64,
     start: u64,
     end: u64,
@@ -80,7 +83,7 @@ pub extern "C" fn burr_cell(
     b: u64,
     c: u64,
 ) -> u64
-    ensures { λ x. ⌜ x ≡ cellOf (settingsFrom n r f sag interruption swell hysteresis) (eventWith kind start end seen extreme retained shortfall class a b c) ⌝ }
+    ensures { λ x. ⌜ x ≡ cellOf (settingsFrom n r f sag interruption swell hysteresis) set (eventWith kind start end seen extreme retained shortfall class a b c) ⌝ }
 {
     let s = settings(n, r, f, sag, interruption, swell, hysteresis);
     let e = event(
@@ -96,10 +99,10 @@ pub extern "C" fn burr_cell(
         b,
         c,
     );
-    score::cell(s, e)
+    score::cell(s, set, e)
 }
 
-// The score in the two floats, and 0; or why the event has none, and both floats as they were.
+// The score in the two floats, and 0; or why the event has none under the set of borders, and both floats as they were.
 #[no_mangle]
 pub extern "C" fn burr_score(
     n: u64,
@@ -109,6 +112,7 @@ pub extern "C" fn burr_score(
     interruption: u64,
     swell: u64,
     hysteresis: u64,
+    set: u64,
     kind: u64,
     start: u64,
     end: u64,
@@ -123,9 +127,9 @@ pub extern "C" fn burr_score(
     severity: &mut f64,
     energy: &mut f64,
 ) -> u64
-    ensures { λ x. ⌜ x ≡ reasonNumber (scoring (settingsFrom n r f sag interruption swell hysteresis) (eventWith kind start end seen extreme retained shortfall class a b c)) ⌝ }
-    ensures { λ x. ⌜ now (severity .exit) ≡ severityAfter (scoring (settingsFrom n r f sag interruption swell hysteresis) (eventWith kind start end seen extreme retained shortfall class a b c)) (now (severity .entry)) ⌝ }
-    ensures { λ x. ⌜ now (energy .exit) ≡ energyAfter (scoring (settingsFrom n r f sag interruption swell hysteresis) (eventWith kind start end seen extreme retained shortfall class a b c)) (now (energy .entry)) ⌝ }
+    ensures { λ x. ⌜ x ≡ reasonNumber (scoringBy (settingsFrom n r f sag interruption swell hysteresis) set (eventWith kind start end seen extreme retained shortfall class a b c)) ⌝ }
+    ensures { λ x. ⌜ now (severity .exit) ≡ severityAfter (scoringBy (settingsFrom n r f sag interruption swell hysteresis) set (eventWith kind start end seen extreme retained shortfall class a b c)) (now (severity .entry)) ⌝ }
+    ensures { λ x. ⌜ now (energy .exit) ≡ energyAfter (scoringBy (settingsFrom n r f sag interruption swell hysteresis) set (eventWith kind start end seen extreme retained shortfall class a b c)) (now (energy .entry)) ⌝ }
 {
     let s = settings(n, r, f, sag, interruption, swell, hysteresis);
     let e = event(
@@ -141,7 +145,7 @@ pub extern "C" fn burr_score(
         b,
         c,
     );
-    let given = score::score_of(s, e);
+    let given = score::score_of(s, set, e);
     match given {
         Scoring::Scored(x) => {
             *severity = x.severity;
@@ -185,7 +189,7 @@ pub extern "C" fn burr_list(
     }
 }
 
-// A fresh table for the settings, and 0; or the refusal's number and its place, and a table of zeros.
+// A fresh table for the settings and the set of borders, and 0; or the refusal's number and its place, and a table of zeros.
 #[no_mangle]
 pub extern "C" fn burr_fresh(
     n: u64,
@@ -195,15 +199,16 @@ pub extern "C" fn burr_fresh(
     interruption: u64,
     swell: u64,
     hysteresis: u64,
-    table: &mut [u64; 59],
+    set: u64,
+    table: &mut [u64; 60],
     place: &mut u64,
 ) -> u64
-    ensures { λ x. ⌜ x ≡ numberOfTaken (freshened (settingsFrom n r f sag interruption swell hysteresis) .answer) ⌝ }
-    ensures { λ x. ⌜ now (place .exit) ≡ placeOfTaken (freshened (settingsFrom n r f sag interruption swell hysteresis) .answer) ⌝ }
-    ensures { λ x. ⌜ now (table .exit) ≡ tableWords (freshened (settingsFrom n r f sag interruption swell hysteresis) .table) ⌝ }
+    ensures { λ x. ⌜ x ≡ numberOfTaken (freshened (settingsFrom n r f sag interruption swell hysteresis) set .answer) ⌝ }
+    ensures { λ x. ⌜ now (place .exit) ≡ placeOfTaken (freshened (settingsFrom n r f sag interruption swell hysteresis) set .answer) ⌝ }
+    ensures { λ x. ⌜ now (table .exit) ≡ tableWords (freshened (settingsFrom n r f sag interruption swell hysteresis) set .table) ⌝ }
 {
     let s = settings(n, r, f, sag, interruption, swell, hysteresis);
-    let site = site::fresh(s);
+    let site = site::fresh(s, set);
     let made = site.table;
     let answer = site.answer;
     *table = words_of(made);
@@ -213,7 +218,7 @@ pub extern "C" fn burr_fresh(
 
 // The table grown by a recording, and 0; or the refusal's number and its place, and the table as it was.
 #[no_mangle]
-pub extern "C" fn burr_add(table: &mut [u64; 59], samples: &[i32], place: &mut u64) -> u64
+pub extern "C" fn burr_add(table: &mut [u64; 60], samples: &[i32], place: &mut u64) -> u64
     ensures { λ x. ⌜ x ≡ numberOfTaken (added (tableFrom (now (table .entry))) (now (samples .entry)) .answer) ⌝ }
     ensures { λ x. ⌜ now (place .exit) ≡ placeOfTaken (added (tableFrom (now (table .entry))) (now (samples .entry)) .answer) ⌝ }
     ensures { λ x. ⌜ now (table .exit) ≡ tableWords (added (tableFrom (now (table .entry))) (now (samples .entry)) .table) ⌝ }

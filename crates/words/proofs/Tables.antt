@@ -1,4 +1,4 @@
--- A table and its 59 numbers are the same thing: each way back gives what was there. So a refused adding leaves the lent numbers
+-- A table and its 60 numbers are the same thing: each way back gives what was there. So a refused adding leaves the lent numbers
 -- as they were, and a host that keeps a table's numbers keeps the table.
 use Prim.Native.Nat.{ℕ, zero, suc, _+_, _≤_}
 use mathlib.Core.Path.{_≡_, refl, sym, ap, ap₂, _∙_}
@@ -24,14 +24,14 @@ read-part : (w : List ℕ) (i n : ℕ) → i + n ≤ length w → read w i n ≡
 read-part w i zero h = refl
 read-part w i (suc n) h = rw (drop-cons w i 0 (omega arith)) (ap (λ (l : List ℕ). getD w i 0 ∷ l) (read-part w (suc i) n (omega arith)))
 
--- 59 numbers, as a table and back
-pub words-back : (w : List ℕ) → length w ≡ 59 → tableWords (tableFrom w) ≡ w
+-- 60 numbers, as a table and back
+pub words-back : (w : List ℕ) → length w ≡ 60 → tableWords (tableFrom w) ≡ w
 unfolding tableWords tableFrom
 words-back w h =
-    let head = read-part w 0 11 (omega arith) in
-    let short : length (drop 51 w) ≤ 8 = rw length-drop (omega arith) in
-    let tail = read-part w 51 8 (omega arith) ∙ take-all 8 (drop 51 w) short in
-    ap₂ (λ (a b : List ℕ). a ++ take 40 (drop 11 w) ++ b) head tail ∙ ap (λ (l : List ℕ). l ++ drop 51 w) (sym (take-add 11 40 w)) ∙ take-append-drop 51 w
+    let head = read-part w 0 12 (omega arith) in
+    let short : length (drop 52 w) ≤ 8 = rw length-drop (omega arith) in
+    let tail = read-part w 52 8 (omega arith) ∙ take-all 8 (drop 52 w) short in
+    ap₂ (λ (a b : List ℕ). a ++ take 40 (drop 12 w) ++ b) head tail ∙ ap (λ (l : List ℕ). l ++ drop 52 w) (sym (take-add 12 40 w)) ∙ take-append-drop 52 w
 
 -- a table of forty cells, as numbers and back
 pub table-back : (t : Table) → length (t .cells) ≡ 40 → tableFrom (tableWords t) ≡ t
@@ -46,12 +46,17 @@ pub settings-first : (t : Table)
 unfolding tableWords
 settings-first t = refl
 
--- a refused adding leaves all 59 numbers
-pub refused-leaves : (w : List ℕ) (xs : List ℤ) (r : Refusal) → length w ≡ 59 → added (tableFrom w) xs .answer ≡ Refused r → tableWords (added (tableFrom w) xs .table) ≡ w
+-- and the set of borders is the eighth
+pub set-eighth : (t : Table) → getD (tableWords t) 7 0 ≡ t .set
+unfolding tableWords
+set-eighth t = refl
+
+-- a refused adding leaves all 60 numbers
+pub refused-leaves : (w : List ℕ) (xs : List ℤ) (r : Refusal) → length w ≡ 60 → added (tableFrom w) xs .answer ≡ Refused r → tableWords (added (tableFrom w) xs .table) ≡ w
 unfolding added
 refused-leaves w xs r h e = rw e (words-back w h)
 
--- a refused making gives 59 zeros
-pub refused-zeros : (s : Settings) (r : Refusal) → freshened s .answer ≡ Refused r → tableWords (freshened s .table) ≡ replicate 59 0
+-- a refused making gives 60 zeros
+pub refused-zeros : (s : Settings) (set : ℕ) (r : Refusal) → freshened s set .answer ≡ Refused r → tableWords (freshened s set .table) ≡ replicate 60 0
 unfolding freshened tableWords
-refused-zeros s r e = rw e
+refused-zeros s set r e = rw e

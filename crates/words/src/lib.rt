@@ -1,4 +1,4 @@
-// The numbers of the boundary: settings are seven, an event eleven, a site table 59, in the order of the rules; an answer is its
+// The numbers of the boundary: settings are seven, an event eleven, a site table 60, in the order of the rules; an answer is its
 // number and its place.
 use numbers::copy;
 use rules::Event;
@@ -98,8 +98,8 @@ pub fn place_in(refusal: Refusal) -> u64
     }
 }
 
-// The table that 59 numbers are.
-pub fn table_of(words: [u64; 59]) -> Table
+// The table that 60 numbers are.
+pub fn table_of(words: [u64; 60]) -> Table
     ensures { λ x. ⌜ x ≡ tableFrom words ⌝ }
 {
     let settings = settings(
@@ -112,29 +112,30 @@ pub fn table_of(words: [u64; 59]) -> Table
         words[6],
     );
     let mut cells = [0; 40];
-    copy(&words[11..51], &mut cells, 0);
+    copy(&words[12..52], &mut cells, 0);
     Table {
         settings,
-        total: words[7],
-        healthy: words[8],
-        disturbed: words[9],
-        unknown: words[10],
+        set: words[7],
+        total: words[8],
+        healthy: words[9],
+        disturbed: words[10],
+        unknown: words[11],
         cells,
-        unplaced: words[51],
-        sags: words[52],
-        interruptions: words[53],
-        swells: words[54],
-        shortfall: words[55],
+        unplaced: words[52],
+        sags: words[53],
+        interruptions: words[54],
+        swells: words[55],
+        shortfall: words[56],
         parts: Sums {
-            a: words[56],
-            b: words[57],
-            c: words[58],
+            a: words[57],
+            b: words[58],
+            c: words[59],
         },
     }
 }
 
-// A table's 59 numbers.
-pub fn words_of(t: Table) -> [u64; 59]
+// A table's 60 numbers.
+pub fn words_of(t: Table) -> [u64; 60]
     ensures { λ x. ⌜ x ≡ tableWords t ⌝ }
 {
     let s = t.settings;
@@ -147,6 +148,7 @@ pub fn words_of(t: Table) -> [u64; 59]
         s.interruption,
         s.swell,
         s.hysteresis,
+        t.set,
         t.total,
         t.healthy,
         t.disturbed,
@@ -163,10 +165,10 @@ pub fn words_of(t: Table) -> [u64; 59]
         parts.b,
         parts.c,
     ];
-    let mut w = [0; 59];
+    let mut w = [0; 60];
     copy(&head, &mut w, 0);
-    copy(&tail, &mut w, 51);
-    copy(&cells, &mut w, 11);
+    copy(&tail, &mut w, 52);
+    copy(&cells, &mut w, 12);
     w
 }
 

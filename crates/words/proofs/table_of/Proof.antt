@@ -1,4 +1,4 @@
--- Each number is read at its place, and the cells are the forty from place 11 on. Assumes nothing.
+-- Each number is read at its place, and the cells are the forty from place 12 on. Assumes nothing.
 use Prim.Native.Nat.{ℕ}
 use mathlib.Core.Path.{_≡_}
 use mathlib.Core.List.{List, append-nil}
@@ -11,9 +11,9 @@ use Rattle.words.proofs.table_of.Statement.{statement}
 use Rattle.words.proofs.table_of.Tie as tie
 
 -- a run of forty that is filled from the front
-cells-read : (w : List ℕ) → length w ≡ 59 → let part = take 40 (drop 11 w) in paste (replicate 40 0) 0 part (length part) ≡ part
+cells-read : (w : List ℕ) → length w ≡ 60 → let part = take 40 (drop 12 w) in paste (replicate 40 0) 0 part (length part) ≡ part
 cells-read w h =
-    let part = take 40 (drop 11 w) in
+    let part = take 40 (drop 12 w) in
     let forty : length part ≡ 40 = simp (length-take, length-drop) (omega arith) in
     rw (forty, take-all 40 part (omega arith), append-nil)
 
@@ -92,11 +92,14 @@ array-read-t60 c = search needs
 array-read-t63 : tie.Need-array-read-t63
 array-read-t63 c = search needs
 
+array-read-t66 : tie.Need-array-read-t66
+array-read-t66 c = search needs
+
 returns : tie.Need-returns
 unfolding tableFrom
 returns c =
     let w = c .before .before .before .before .before .before .args .t1 in
-    let all : length w ≡ 59 = search needs in
+    let all : length w ≡ 60 = search needs in
     rw (c .before .before .before .before .before .settings .ensures, c .before .copy .ensures, cells-read w all)
 
 pub table-of-spec : {M : Type 1} → statement M
@@ -128,4 +131,5 @@ table-of-spec =
     array-read-t57
     array-read-t60
     array-read-t63
+    array-read-t66
     returns)

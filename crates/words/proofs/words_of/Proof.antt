@@ -19,7 +19,7 @@ around : (c : tie.After-copy2) → let t = c .before .before .before .before .be
 around c =
     let first = c .before .before .before .before in
     let t = first .before .before .before .before .before .before .args .t in
-    c .copy2 .ensures ∙ ap (λ (w : List ℕ). paste w 51 (tailOf t) 8) (first .copy .ensures)
+    c .copy2 .ensures ∙ ap (λ (w : List ℕ). paste w 52 (tailOf t) 8) (first .copy .ensures)
 
 slice-aggregate-copy : tie.Need-slice-aggregate-copy
 slice-aggregate-copy c = search needs
