@@ -1,7 +1,7 @@
 /*
  * Calls every function of burrcradle.h on the known answers and on what is turned away, prints each known answer's reason
- * and cell, and exits with 1 where anything is not as the tables below have it. The numbers are those of the rules; nothing
- * here works out an answer.
+ * and its cell by either set of borders, and exits with 1 where anything is not as the tables below have it. The numbers are
+ * those of the rules; nothing here works out an answer.
  */
 #include "burrcradle.h"
 
@@ -12,6 +12,19 @@
 /* N 8, R 1000, f 50, thresholds 90, 10, 110, hysteresis 2; and the same with f 60. */
 static const uint64_t settings[7] = {8, 1000, 50, 90, 10, 110, 2};
 static const uint64_t sixty[7] = {8, 1000, 60, 90, 10, 110, 2};
+
+/* 2^63: modulo 2^64, twice that is nothing. */
+#define HALF 9223372036854775808u
+
+/* The two sets are 0 and 1, and others are unknown, also where one of their bits, 32 or 63 alone would be 0 or 1. */
+#define SETS 2
+static const uint64_t unknown[] = {2, 3, 4294967296u, 4294967297u, HALF, HALF + 1, UINT64_MAX};
+
+#define UNKNOWN (sizeof unknown / sizeof unknown[0])
+
+/* One above the last cell of each set. */
+#define UNPLACED {40, 25}
+static const uint64_t not_scored[SETS] = UNPLACED;
 
 #define SETTINGS(s) (s)[0], (s)[1], (s)[2], (s)[3], (s)[4], (s)[5], (s)[6]
 #define EVENT(e) (e)[0], (e)[1], (e)[2], (e)[3], (e)[4], (e)[5], (e)[6], (e)[7], (e)[8], (e)[9], (e)[10]
@@ -27,7 +40,8 @@ static const uint64_t sixty[7] = {8, 1000, 60, 90, 10, 110, 2};
 struct answer {
     uint64_t words[BURR_EVENT];
     uint64_t reason;
-    uint64_t cell;
+    /* By each set. */
+    uint64_t cell[SETS];
     double severity, energy;
 };
 
@@ -40,53 +54,53 @@ struct known {
     long missing;
     size_t events;
     struct answer answers[MOST_EVENTS];
-    /* The site table after it: total, healthy, disturbed, unknown; the cell of its sag, 40 where none is placed; unplaced;
-       sags, interruptions, swells; shortfall, and those of a, b and c. */
-    uint64_t half[4], cell, unplaced, count[3], shortfall[4];
+    /* The site table after it: total, healthy, disturbed, unknown; the cell of its sag by each set, 40 and 25 where none is
+       placed; unplaced; sags, interruptions, swells; shortfall, and those of a, b and c. */
+    uint64_t half[4], cell[SETS], unplaced, count[3], shortfall[4];
 };
 
 #define SAME(...) {__VA_ARGS__}, {__VA_ARGS__}
 #define AROUND(v) 6, SAME(1000, 1000, v, v, 1000, 1000)
-#define NONE 40, 0, {0, 0, 0}, {0, 0, 0, 0}
-#define UNSCORED(why) why, 40, -1, -1
+#define NONE UNPLACED, 0, {0, 0, 0}, {0, 0, 0, 0}
+#define UNSCORED(why) why, UNPLACED, -1, -1
 
 static const struct known known[] = {
     {"K1", AROUND(1000), -1, 0, {{{0}, UNSCORED(0)}}, {5, 5, 0, 0}, NONE},
     {"K2", AROUND(500), -1, 1,
-     {{{1, 1, 4, 3, 2000000, 500, 36000000, 0, 12000000, 12000000, 12000000}, 0, 17, 1, 0.045}},
-     {5, 2, 3, 0}, 17, 0, {1, 0, 0}, {36000000, 12000000, 12000000, 12000000}},
+     {{{1, 1, 4, 3, 2000000, 500, 36000000, 0, 12000000, 12000000, 12000000}, 0, {17, 11}, 1, 0.045}},
+     {5, 2, 3, 0}, {17, 11}, 0, {1, 0, 0}, {36000000, 12000000, 12000000, 12000000}},
     {"K3", 6, SAME(900, 900, 900, 900, 900, 900), -1, 0, {{{0}, UNSCORED(0)}}, {5, 5, 0, 0}, NONE},
     {"K4", AROUND(899), -1, 1,
-     {{{1, 2, 3, 3, 6465608, 899, 4603176, 0, 1534392, 1534392, 1534392}, 0, 32, 0.101, 0.005}},
-     {5, 4, 1, 0}, 32, 0, {1, 0, 0}, {4603176, 1534392, 1534392, 1534392}},
+     {{{1, 2, 3, 3, 6465608, 899, 4603176, 0, 1534392, 1534392, 1534392}, 0, {32, 20}, 0.101, 0.005}},
+     {5, 4, 1, 0}, {32, 20}, 0, {1, 0, 0}, {4603176, 1534392, 1534392, 1534392}},
     {"K5", 7, SAME(1000, 899, 899, 919, 919, 920, 920), -1, 1,
-     {{{1, 1, 5, 3, 6465608, 899, 4603176, 0, 1534392, 1534392, 1534392}, 0, 33, 0.202, 0.005}},
-     {6, 2, 4, 0}, 33, 0, {1, 0, 0}, {4603176, 1534392, 1534392, 1534392}},
+     {{{1, 1, 5, 3, 6465608, 899, 4603176, 0, 1534392, 1534392, 1534392}, 0, {33, 21}, 0.202, 0.005}},
+     {6, 2, 4, 0}, {33, 21}, 0, {1, 0, 0}, {4603176, 1534392, 1534392, 1534392}},
     {"K6", AROUND(0), -1, 2,
-     {{{1, 1, 4, 3, 0, 0, 48000000, 0, 16000000, 16000000, 16000000}, 0, 1, 2, 0.06},
+     {{{1, 1, 4, 3, 0, 0, 48000000, 0, 16000000, 16000000, 16000000}, 0, {1, 1}, 2, 0.06},
       {{2, 2, 3, 3, 0, 0, 0, 0, 0, 0, 0}, UNSCORED(4)}},
-     {5, 2, 3, 0}, 1, 0, {1, 1, 0}, {48000000, 16000000, 16000000, 16000000}},
+     {5, 2, 3, 0}, {1, 1}, 0, {1, 1, 0}, {48000000, 16000000, 16000000, 16000000}},
     {"K7", 6, SAME(1000, 1000, 100, 101, 1000, 1000), -1, 1,
-     {{{1, 1, 4, 3, 80804, 101, 47515176, 0, 15838392, 15838392, 15838392}, 0, 9, 1.798, 0.059}},
-     {5, 2, 3, 0}, 9, 0, {1, 0, 0}, {47515176, 15838392, 15838392, 15838392}},
+     {{{1, 1, 4, 3, 80804, 101, 47515176, 0, 15838392, 15838392, 15838392}, 0, {9, 6}, 1.798, 0.059}},
+     {5, 2, 3, 0}, {9, 6}, 0, {1, 0, 0}, {47515176, 15838392, 15838392, 15838392}},
     {"K8", 4, SAME(500, 500, 1000, 1000), -1, 1,
      {{{1, 0, 2, 2, 2000000, 500, 27000000, 0, 9000000, 9000000, 9000000}, UNSCORED(1)}},
-     {3, 1, 2, 0}, 40, 1, {1, 0, 0}, {27000000, 9000000, 9000000, 9000000}},
+     {3, 1, 2, 0}, UNPLACED, 1, {1, 0, 0}, {27000000, 9000000, 9000000, 9000000}},
     {"K9", 8, SAME(1000, 1000, 500, 500, 500, 500, 1000, 1000), 4 * BLOCK, 2,
      {{{1, 1, 3, 1, 2000000, 500, 27000000, 0, 9000000, 9000000, 9000000}, UNSCORED(2)},
       {{1, 5, 6, 2, 5000000, 791, 9000000, 0, 3000000, 3000000, 3000000}, UNSCORED(1)}},
-     {7, 2, 3, 2}, 40, 2, {2, 0, 0}, {36000000, 12000000, 12000000, 12000000}},
+     {7, 2, 3, 2}, UNPLACED, 2, {2, 0, 0}, {36000000, 12000000, 12000000, 12000000}},
     {"K10", AROUND(1200), -1, 1, {{{3, 1, 4, 3, 11520000, 1200, 0, 0, 0, 0, 0}, UNSCORED(4)}},
-     {5, 2, 3, 0}, 40, 0, {0, 0, 1}, {0, 0, 0, 0}},
+     {5, 2, 3, 0}, UNPLACED, 0, {0, 0, 1}, {0, 0, 0, 0}},
     {"K11", 2, SAME(500, 500), -1, 1,
      {{{1, 0, 1, 0, 2000000, 500, 18000000, 0, 6000000, 6000000, 6000000}, UNSCORED(3)}},
-     {1, 0, 1, 0}, 40, 1, {1, 0, 0}, {18000000, 6000000, 6000000, 6000000}},
+     {1, 0, 1, 0}, UNPLACED, 1, {1, 0, 0}, {18000000, 6000000, 6000000, 6000000}},
     {"K12", 6, {1000, 1000, 500, 500, 1000, 1000}, {1000, 1000, 1000, 1000, 1000, 1000}, -1, 1,
-     {{{1, 1, 4, 3, 2000000, 500, 12000000, 4, 12000000, 0, 0}, 0, 17, 1, 0.015}},
-     {5, 2, 3, 0}, 17, 0, {1, 0, 0}, {12000000, 12000000, 0, 0}},
+     {{{1, 1, 4, 3, 2000000, 500, 12000000, 4, 12000000, 0, 0}, 0, {17, 11}, 1, 0.015}},
+     {5, 2, 3, 0}, {17, 11}, 0, {1, 0, 0}, {12000000, 12000000, 0, 0}},
     {"a at 700, b and c at 500", 6, {1000, 1000, 700, 700, 1000, 1000}, {1000, 1000, 500, 500, 1000, 1000}, -1, 1,
-     {{{1, 1, 4, 3, 2000000, 500, 32160000, 4, 8160000, 12000000, 12000000}, 0, 17, 1, 0.04}},
-     {5, 2, 3, 0}, 17, 0, {1, 0, 0}, {32160000, 8160000, 12000000, 12000000}},
+     {{{1, 1, 4, 3, 2000000, 500, 32160000, 4, 8160000, 12000000, 12000000}, 0, {17, 11}, 1, 0.04}},
+     {5, 2, 3, 0}, {17, 11}, 0, {1, 0, 0}, {32160000, 8160000, 12000000, 12000000}},
 };
 
 #define CASES (sizeof known / sizeof known[0])
@@ -100,32 +114,29 @@ struct judged {
     struct answer answer;
 };
 
-/* 2^63: modulo 2^64, twice that is nothing. */
-#define HALF 9223372036854775808u
-
 static const struct judged judged[] = {
     {"50 Hz, 1000 half-cycles", settings,
-     {{1, 7, 1007, 3, 6465608, 899, 4603176000, 0, 1534392000, 1534392000, 1534392000}, 0, 37, 0.505, 5.753}},
+     {{1, 7, 1007, 3, 6465608, 899, 4603176000, 0, 1534392000, 1534392000, 1534392000}, 0, {37, 24}, 0.505, 5.753}},
     {"50 Hz, 1001 half-cycles", settings,
-     {{1, 7, 1008, 3, 6465608, 899, 4607779176, 0, 1535926392, 1535926392, 1535926392}, 0, 37, 1.01, 5.759}},
+     {{1, 7, 1008, 3, 6465608, 899, 4607779176, 0, 1535926392, 1535926392, 1535926392}, 0, {37, 24}, 1.01, 5.759}},
     {"60 Hz, 1200 half-cycles", sixty,
-     {{1, 7, 1207, 3, 6465608, 899, 5523811200, 0, 1841270400, 1841270400, 1841270400}, 0, 37, 0.505, 5.753}},
+     {{1, 7, 1207, 3, 6465608, 899, 5523811200, 0, 1841270400, 1841270400, 1841270400}, 0, {37, 24}, 0.505, 5.753}},
     {"60 Hz, 1201 half-cycles", sixty,
-     {{1, 7, 1208, 3, 6465608, 899, 5528414376, 0, 1842804792, 1842804792, 1842804792}, 0, 37, 1.01, 5.758}},
+     {{1, 7, 1208, 3, 6465608, 899, 5528414376, 0, 1842804792, 1842804792, 1842804792}, 0, {37, 24}, 1.01, 5.758}},
     {"exactly 100.5", settings,
-     {{1, 1, 4, 3, 80802, 101, 47515188, 0, 15838396, 15838396, 15838396}, 0, 9, 1.798, 0.059}},
+     {{1, 1, 4, 3, 80802, 101, 47515188, 0, 15838396, 15838396, 15838396}, 0, {9, 6}, 1.798, 0.059}},
     {"exactly 100.5, downward", settings,
      {{1, 1, 4, 3, 80802, 100, 47515188, 0, 15838396, 15838396, 15838396}, UNSCORED(5)}},
     {"a unit of S below 100.5", settings,
-     {{1, 1, 4, 3, 80801, 100, 47515194, 0, 15838398, 15838398, 15838398}, 0, 9, 1.8, 0.059}},
+     {{1, 1, 4, 3, 80801, 100, 47515194, 0, 15838398, 15838398, 15838398}, 0, {9, 6}, 1.8, 0.059}},
     {"a unit of S below 100.5, upward", settings,
      {{1, 1, 4, 3, 80801, 101, 47515194, 0, 15838398, 15838398, 15838398}, UNSCORED(5)}},
     {"a unit of S below the sag threshold", settings,
-     {{1, 1, 4, 3, 6479999, 900, 4560003, 0, 1520001, 1520001, 1520001}, 0, 33, 0.2, 0.005}},
+     {{1, 1, 4, 3, 6479999, 900, 4560003, 0, 1520001, 1520001, 1520001}, 0, {33, 21}, 0.2, 0.005}},
     {"a unit of S below the sag threshold, downward", settings,
      {{1, 1, 4, 3, 6479999, 899, 4560003, 0, 1520001, 1520001, 1520001}, UNSCORED(5)}},
     {"all of K2's shortfall c's", settings,
-     {{1, 1, 4, 3, 2000000, 500, 36000000, 0, 0, 0, 36000000}, 0, 17, 1, 0.045}},
+     {{1, 1, 4, 3, 2000000, 500, 36000000, 0, 0, 0, 36000000}, 0, {17, 11}, 1, 0.045}},
     {"a sag's part a one too large", settings,
      {{1, 1, 4, 3, 2000000, 500, 36000000, 0, 12000001, 12000000, 12000000}, UNSCORED(5)}},
     {"a sag's part b one too small", settings,
@@ -142,6 +153,61 @@ static const struct judged judged[] = {
 };
 
 #define JUDGED (sizeof judged / sizeof judged[0])
+
+/* Sags on both sides of each border between rows. The recording is as K2's: a block at a level, then one with the same sum of
+   squares or one unit more. The sag has h half-cycles, and the level is its retained value. */
+struct deep {
+    int32_t level, second[4];
+    uint64_t h, extreme, cell[SETS];
+};
+
+#define FOUR(v) {v, v, v, v}
+
+static const struct deep deep[] = {
+    {100, FOUR(100), 3, 80000, {1, 1}},
+    {100, {200, 1, 0, 0}, 3, 80001, {9, 6}},
+    {400, FOUR(400), 3, 1280000, {9, 6}},
+    {400, {800, 1, 0, 0}, 3, 1280001, {17, 11}},
+    {700, FOUR(700), 3, 3920000, {17, 11}},
+    {700, {1400, 1, 0, 0}, 3, 3920001, {25, 16}},
+    {800, FOUR(800), 2, 5120000, {25, 16}},
+    {800, {1600, 1, 0, 0}, 2, 5120001, {25, 21}},
+    {850, FOUR(850), 1, 5780000, {24, 20}},
+    {850, {1700, 1, 0, 0}, 1, 5780001, {32, 20}},
+};
+
+#define DEEP (sizeof deep / sizeof deep[0])
+
+/* Sags of h half-cycles at 600, on both sides of each border between columns. */
+struct lasting {
+    const uint64_t *settings;
+    uint64_t h, cell[SETS];
+};
+
+#define LONGEST 7200
+
+static const struct lasting lasting[] = {
+    {settings, 1, {16, 10}},    {settings, 2, {17, 11}},
+    {settings, 9, {17, 11}},    {settings, 10, {18, 11}},
+    {settings, 19, {18, 11}},   {settings, 20, {18, 12}},
+    {settings, 49, {18, 12}},   {settings, 50, {19, 13}},
+    {settings, 99, {19, 13}},   {settings, 100, {20, 13}},
+    {settings, 299, {20, 13}},  {settings, 300, {21, 13}},
+    {settings, 499, {21, 13}},  {settings, 500, {21, 14}},
+    {settings, 1999, {21, 14}}, {settings, 2000, {22, 14}},
+    {settings, 5999, {22, 14}}, {settings, 6000, {23, 14}},
+    {sixty, 1, {16, 10}},       {sixty, 2, {17, 11}},
+    {sixty, 11, {17, 11}},      {sixty, 12, {18, 11}},
+    {sixty, 23, {18, 11}},      {sixty, 24, {18, 12}},
+    {sixty, 59, {18, 12}},      {sixty, 60, {19, 13}},
+    {sixty, 119, {19, 13}},     {sixty, 120, {20, 13}},
+    {sixty, 359, {20, 13}},     {sixty, 360, {21, 13}},
+    {sixty, 599, {21, 13}},     {sixty, 600, {21, 14}},
+    {sixty, 2399, {21, 14}},    {sixty, 2400, {22, 14}},
+    {sixty, 7199, {22, 14}},    {sixty, LONGEST, {23, 14}},
+};
+
+#define LASTING (sizeof lasting / sizeof lasting[0])
 
 static int wrong = 0;
 
@@ -178,22 +244,52 @@ static size_t samples_of(const struct known *k, int32_t *samples)
     return BLOCK * k->blocks;
 }
 
-/* The three questions about one event, under settings s. */
+/* What the three questions about one event gave; the floats are -1 where they were not written. */
+struct told {
+    uint64_t reason, cell, why;
+    double severity, energy;
+};
+
+static struct told tell(const uint64_t *s, uint64_t set, const uint64_t *words)
+{
+    struct told t = {0, 0, 0, -1, -1};
+    t.reason = burr_reason(SETTINGS(s), set, EVENT(words));
+    t.cell = burr_cell(SETTINGS(s), set, EVENT(words));
+    t.why = burr_score(SETTINGS(s), set, EVENT(words), &t.severity, &t.energy);
+    return t;
+}
+
+static void check_told(const char *name, struct told t, uint64_t reason, uint64_t cell, double severity, double energy)
+{
+    check(t.reason == reason, name, "reason");
+    check(t.cell == cell, name, "cell");
+    check(t.why == reason, name, "score's reason");
+    check(t.severity == severity, name, "severity");
+    check(t.energy == energy, name, "energy");
+}
+
+/* An event without a score. */
+static void unscored(const char *name, const uint64_t *s, uint64_t set, const uint64_t *words, uint64_t reason,
+                     uint64_t cell)
+{
+    check_told(name, tell(s, set, words), reason, cell, -1, -1);
+}
+
+/* One event under settings s: by either set only the cell differs, and by an unknown one the reason is 6. */
 static void ask(const char *name, const uint64_t *s, const struct answer *x)
 {
-    double severity = -1, energy = -1;
-    uint64_t reason = burr_reason(SETTINGS(s), EVENT(x->words));
-    uint64_t cell = burr_cell(SETTINGS(s), EVENT(x->words));
-    uint64_t why = burr_score(SETTINGS(s), EVENT(x->words), &severity, &energy);
-    printf("%s: reason %llu, cell %llu", name, (unsigned long long)reason, (unsigned long long)cell);
-    if (why == 0)
-        printf(", severity %g, energy %g s", severity, energy);
+    struct told t[SETS];
+    for (uint64_t set = 0; set < SETS; set++) {
+        t[set] = tell(s, set, x->words);
+        check_told(name, t[set], x->reason, x->cell[set], x->severity, x->energy);
+    }
+    for (size_t i = 0; i < UNKNOWN; i++)
+        unscored(name, s, unknown[i], x->words, 6, 40);
+    printf("%s: reason %llu, cell %llu or %llu", name, (unsigned long long)t[0].reason, (unsigned long long)t[0].cell,
+           (unsigned long long)t[1].cell);
+    if (t[0].why == 0)
+        printf(", severity %g, energy %g s", t[0].severity, t[0].energy);
     printf("\n");
-    check(reason == x->reason, name, "reason");
-    check(cell == x->cell, name, "cell");
-    check(why == x->reason, name, "score's reason");
-    check(severity == x->severity, name, "severity");
-    check(energy == x->energy, name, "energy");
 }
 
 /* The list, and each of its events. */
@@ -214,43 +310,87 @@ static void list(const struct known *k)
         printf("%s: no event\n", k->name);
 }
 
-/* The site table of a fresh site to which the case is added. */
-static void site(const struct known *k)
+/* The site table of a fresh site to which the case is added. The number beyond the table is nobody's to write. */
+static void site(const struct known *k, uint64_t set)
 {
     int32_t samples[MOST_BLOCKS * BLOCK];
     size_t len = samples_of(k, samples);
-    uint64_t table[BURR_TABLE], want[BURR_TABLE] = {0}, place = 99;
-    fill(table, BURR_TABLE, 9);
-    check(burr_fresh(SETTINGS(settings), table, &place) == 0 && place == 0, k->name, "fresh");
+    uint64_t table[BURR_TABLE + 1], want[BURR_TABLE] = {0}, place = 99;
+    fill(table, BURR_TABLE + 1, 9);
+    check(burr_fresh(SETTINGS(settings), set, table, &place) == 0 && place == 0, k->name, "fresh");
     memcpy(want, settings, sizeof settings);
+    want[7] = set;
     check(memcmp(table, want, sizeof want) == 0, k->name, "fresh table");
     place = 99;
     check(burr_add(table, samples, len, &place) == 0 && place == 0, k->name, "add");
-    memcpy(&want[7], k->half, sizeof k->half);
-    if (k->cell < BURR_CELLS)
-        want[11 + k->cell] = 1;
-    want[51] = k->unplaced;
-    memcpy(&want[52], k->count, sizeof k->count);
-    memcpy(&want[55], k->shortfall, sizeof k->shortfall);
+    memcpy(&want[8], k->half, sizeof k->half);
+    if (k->cell[set] != not_scored[set])
+        want[12 + k->cell[set]] = 1;
+    want[52] = k->unplaced;
+    memcpy(&want[53], k->count, sizeof k->count);
+    memcpy(&want[56], k->shortfall, sizeof k->shortfall);
     check(memcmp(table, want, sizeof want) == 0, k->name, "table");
+    check(table[BURR_TABLE] == 9, k->name, "beyond the table");
+}
+
+/* A sag by its words and, where there are samples, as the only one of a fresh table: one cell of either set takes it. */
+static void placed(const char *name, const uint64_t *s, const uint64_t *words, const int32_t *samples, size_t len,
+                   const uint64_t cell[SETS])
+{
+    for (uint64_t set = 0; set < SETS; set++) {
+        uint64_t table[BURR_TABLE], want[BURR_CELLS] = {0}, place = 99;
+        check(burr_reason(SETTINGS(s), set, EVENT(words)) == 0, name, "reason");
+        check(burr_cell(SETTINGS(s), set, EVENT(words)) == cell[set], name, "cell");
+        if (len == 0)
+            continue;
+        want[cell[set]] = 1;
+        burr_fresh(SETTINGS(s), set, table, &place);
+        check(burr_add(table, samples, len, &place) == 0 && table[7] == set, name, "add");
+        check(memcmp(&table[12], want, sizeof want) == 0, name, "table's cells");
+    }
+}
+
+/* Both sides of each border. Sags of one and two half-cycles at 600 are placed by their words alone. */
+static void borders(void)
+{
+    static int32_t samples[(LONGEST + 3) * BLOCK];
+    char name[40];
+    for (size_t i = 0; i < DEEP; i++) {
+        const struct deep *d = &deep[i];
+        uint64_t words[BURR_EVENT] = {1, 1, 1 + d->h, 3, d->extreme, (uint64_t)d->level};
+        for (size_t at = 0; at < 6 * BLOCK; at++)
+            samples[at] = at / BLOCK == 2 ? d->level : at / BLOCK == 3 ? d->second[at % BLOCK / 3] : 1000;
+        snprintf(name, sizeof name, "extreme %llu", (unsigned long long)d->extreme);
+        placed(name, settings, words, samples, 6 * BLOCK, d->cell);
+    }
+    for (size_t i = 0; i < LASTING; i++) {
+        const struct lasting *l = &lasting[i];
+        uint64_t words[BURR_EVENT] = {1, 1, 1 + l->h, 3, 2880000, 600};
+        for (size_t at = 0; at < (l->h + 3) * BLOCK; at++)
+            samples[at] = at / BLOCK < 2 || at / BLOCK > l->h ? 1000 : 600;
+        snprintf(name, sizeof name, "%llu half-cycles, %llu Hz", (unsigned long long)l->h,
+                 (unsigned long long)l->settings[2]);
+        placed(name, l->settings, words, samples, l->h < 3 ? 0 : (l->h + 3) * BLOCK, l->cell);
+    }
 }
 
 /* A refusal of both calls that take samples, with all lent memory as it was; `number` 7 is the list's alone. */
 static void refused(const char *name, const int32_t *samples, size_t len, size_t room, uint64_t number, uint64_t place)
 {
-    uint64_t events[ROOM], answer = 99, at = 99, table[BURR_TABLE], kept[BURR_TABLE];
+    uint64_t events[ROOM], answer = 99;
     fill(events, ROOM, 9);
     check(burr_list(SETTINGS(settings), samples, len, events, room, &answer) == number, name, "list's number");
     check(answer == place, name, "list's place");
     check(all(events, ROOM, 9), name, "list wrote");
-    if (number == 7)
-        return;
-    burr_fresh(SETTINGS(settings), table, &at);
-    memcpy(kept, table, sizeof kept);
-    at = 99;
-    check(burr_add(table, samples, len, &at) == number, name, "add's number");
-    check(at == place, name, "add's place");
-    check(memcmp(table, kept, sizeof kept) == 0, name, "add wrote");
+    for (uint64_t set = 0; set < SETS && number != 7; set++) {
+        uint64_t at = 99, table[BURR_TABLE], kept[BURR_TABLE];
+        burr_fresh(SETTINGS(settings), set, table, &at);
+        memcpy(kept, table, sizeof kept);
+        at = 99;
+        check(burr_add(table, samples, len, &at) == number, name, "add's number");
+        check(at == place, name, "add's place");
+        check(memcmp(table, kept, sizeof kept) == 0, name, "add wrote");
+    }
 }
 
 /* Refusals 2 to 7, each where no earlier one applies. */
@@ -297,77 +437,159 @@ static void each_channel(void)
     };
     for (size_t channel = 0; channel < 3; channel++) {
         int32_t samples[6 * BLOCK];
-        uint64_t events[ROOM], table[BURR_TABLE], answer = 99, place = 99;
+        uint64_t events[ROOM], answer = 99;
         for (size_t i = 0; i < 6 * BLOCK; i++)
             samples[i] = i % 3 == channel && i / BLOCK / 2 == 1 ? 500 : 1000;
         fill(events, ROOM, 9);
         check(burr_list(SETTINGS(settings), samples, 6 * BLOCK, events, ROOM, &answer) == 0, "one channel", "refused");
         check(answer == 1 && memcmp(events, words[channel], sizeof words[channel]) == 0, "one channel", "words");
-        burr_fresh(SETTINGS(settings), table, &place);
-        check(burr_add(table, samples, 6 * BLOCK, &place) == 0, "one channel", "add");
-        check(table[55] == 12000000, "one channel", "table's shortfall");
-        check(memcmp(&table[56], &words[channel][8], 3 * sizeof table[0]) == 0, "one channel", "table's parts");
+        for (uint64_t set = 0; set < SETS; set++) {
+            uint64_t table[BURR_TABLE], place = 99;
+            burr_fresh(SETTINGS(settings), set, table, &place);
+            check(burr_add(table, samples, 6 * BLOCK, &place) == 0, "one channel", "add");
+            check(table[56] == 12000000, "one channel", "table's shortfall");
+            check(memcmp(&table[57], &words[channel][8], 3 * sizeof table[0]) == 0, "one channel", "table's parts");
+        }
     }
 }
 
-/* Refusal 1 at each setting in turn, the others good. */
+/* A table that is not made: refusal 1, and zeros all through. */
+static void not_made(const char *name, const uint64_t *s, uint64_t set, uint64_t place)
+{
+    uint64_t table[BURR_TABLE + 1], at = 99;
+    fill(table, BURR_TABLE + 1, 9);
+    check(burr_fresh(SETTINGS(s), set, table, &at) == 1, name, "fresh's number");
+    check(at == place, name, "fresh's place");
+    check(all(table, BURR_TABLE, 0), name, "no table of zeros");
+    check(table[BURR_TABLE] == 9, name, "beyond the table");
+}
+
+/* Refusal 1 at each setting in turn, the others good. It is told before an unknown set. */
 static void bad_settings(void)
 {
     static const uint64_t bad[7] = {9, 999, 55, 96, 0, 104, 6};
+    const uint64_t *sag = known[1].answers[0].words;
     int32_t samples[MOST_BLOCKS * BLOCK];
     size_t len = samples_of(&known[1], samples);
     for (size_t i = 0; i < 7; i++) {
-        uint64_t s[7], events[ROOM], table[BURR_TABLE], answer = 99, place = 99;
+        uint64_t s[7], events[ROOM], answer = 99;
         memcpy(s, settings, sizeof s);
         s[i] = bad[i];
         fill(events, ROOM, 9);
-        fill(table, BURR_TABLE, 9);
         check(burr_list(SETTINGS(s), samples, len, events, ROOM, &answer) == 1, "bad setting", "list's number");
         check(answer == i + 1, "bad setting", "list's place");
         check(all(events, ROOM, 9), "bad setting", "list wrote");
-        check(burr_fresh(SETTINGS(s), table, &place) == 1, "bad setting", "fresh's number");
-        check(place == i + 1, "bad setting", "fresh's place");
-        check(all(table, BURR_TABLE, 0), "bad setting", "no table of zeros");
-        check(burr_reason(SETTINGS(s), EVENT(known[1].answers[0].words)) == 6, "bad setting", "reason");
-        check(burr_cell(SETTINGS(s), EVENT(known[1].answers[0].words)) == 40, "bad setting", "cell");
+        for (uint64_t set = 0; set < SETS; set++) {
+            not_made("bad setting", s, set, i + 1);
+            unscored("bad setting", s, set, sag, 6, not_scored[set]);
+        }
+        for (size_t j = 0; j < UNKNOWN; j++) {
+            not_made("bad setting, unknown set", s, unknown[j], i + 1);
+            unscored("bad setting, unknown set", s, unknown[j], sag, 6, 40);
+        }
     }
+    for (size_t j = 0; j < UNKNOWN; j++)
+        not_made("unknown set", settings, unknown[j], 8);
+}
+
+/* A table offered without samples: sound, where it is refused for having none, or unsound. */
+static void offered(const char *name, const uint64_t table[BURR_TABLE], uint64_t number)
+{
+    static const int32_t samples[1] = {0};
+    uint64_t lent[BURR_TABLE], place = 99;
+    memcpy(lent, table, sizeof lent);
+    check(burr_add(lent, samples, 0, &place) == number && place == 0, name, "answer");
+    check(memcmp(lent, table, sizeof lent) == 0, name, "add wrote");
 }
 
 /* Refusals 8 and 9, with the table as it was. */
-static void bad_tables(void)
+static void bad_tables(uint64_t set)
 {
     int32_t samples[MOST_BLOCKS * BLOCK];
     size_t len = samples_of(&known[1], samples);
     uint64_t table[BURR_TABLE], kept[BURR_TABLE], place = 99;
-    burr_fresh(SETTINGS(settings), table, &place);
-    table[7] = table[8] = 3999996;
+    burr_fresh(SETTINGS(settings), set, table, &place);
+    table[8] = table[9] = 3999996;
     memcpy(kept, table, sizeof kept);
     check(burr_add(table, samples, len, &place) == 8 && place == 4, "full table", "answer");
     check(memcmp(table, kept, sizeof kept) == 0, "full table", "add wrote");
-    table[7] = table[8] = 3999995;
-    check(burr_add(table, samples, len, &place) == 0 && table[7] == 4000000, "last five half-cycles", "answer");
-    table[9] += 1;
+    table[8] = table[9] = 3999995;
+    check(burr_add(table, samples, len, &place) == 0 && table[8] == 4000000, "last five half-cycles", "answer");
+    table[10] += 1;
     memcpy(kept, table, sizeof kept);
     place = 99;
     check(burr_add(table, samples, len, &place) == 9 && place == 0, "unsound table", "answer");
     check(memcmp(table, kept, sizeof kept) == 0, "unsound table", "add wrote");
+    table[10] -= 1;
+    for (size_t i = 0; i < UNKNOWN; i++) {
+        table[7] = unknown[i];
+        offered("table with an unknown set", table, 9);
+    }
     fill(table, BURR_TABLE, UINT64_MAX);
-    check(burr_add(table, samples, len, &place) == 9 && place == 0, "largest table", "answer");
-    check(all(table, BURR_TABLE, UINT64_MAX), "largest table", "add wrote");
+    offered("largest table", table, 9);
+    fill(table, BURR_TABLE, 0);
+    table[7] = set;
+    offered("zeros", table, 9);
 }
 
-/* A table with a shortfall and those of a, b and c: sound, where it is refused for having no samples, or unsound. */
+/* A sag in each cell, counted among the sags or not. In a cell that the set does not have it is refused either way. */
+static void cells_of_a_table(uint64_t set)
+{
+    uint64_t table[BURR_TABLE], place = 99;
+    burr_fresh(SETTINGS(settings), set, table, &place);
+    table[8] = table[10] = 5;
+    for (uint64_t cell = 0; cell < BURR_CELLS; cell++) {
+        table[12 + cell] = 1;
+        offered("a sag in a cell, not counted", table, 9);
+        table[53] = 1;
+        offered("a sag in a cell", table, cell < not_scored[set] ? 3 : 9);
+        table[12 + cell] = 0;
+        offered("a sag in no cell", table, 9);
+        table[53] = 0;
+    }
+    table[12] = table[12 + 24] = HALF;
+    offered("cells that wrap round", table, 9);
+    table[12] = table[12 + 24] = 0;
+    table[12 + 25] = table[12 + 39] = HALF;
+    offered("last cells that wrap round", table, 9);
+}
+
+/* K2 added twice to a table that has sags in all cells of its set, 1 + 2 + .. + 40 or 1 + 2 + .. + 25: the set stays, and
+   nothing grows but what K2 adds to. */
+static void every_cell(uint64_t set)
+{
+    static const uint64_t sags[SETS] = {820, 325};
+    int32_t samples[MOST_BLOCKS * BLOCK];
+    size_t len = samples_of(&known[1], samples);
+    uint64_t table[BURR_TABLE], want[BURR_TABLE], place = 99;
+    burr_fresh(SETTINGS(settings), set, table, &place);
+    table[8] = table[10] = 1000;
+    for (uint64_t cell = 0; cell < not_scored[set]; cell++)
+        table[12 + cell] = 1 + cell;
+    table[53] = sags[set];
+    memcpy(want, table, sizeof want);
+    check(burr_add(table, samples, len, &place) == 0, "every cell", "add");
+    check(burr_add(table, samples, len, &place) == 0, "every cell", "second add");
+    want[8] = 1010;
+    want[9] = 4;
+    want[10] = 1006;
+    want[12 + known[1].cell[set]] += 2;
+    want[53] += 2;
+    want[56] = 72000000;
+    want[57] = want[58] = want[59] = 24000000;
+    check(memcmp(table, want, sizeof want) == 0, "every cell", "table");
+}
+
+/* A table with a shortfall and those of a, b and c. */
 static void short_table(const char *name, const uint64_t *s, uint64_t total, const uint64_t shortfall[4], uint64_t number)
 {
-    static const int32_t samples[1] = {0};
-    uint64_t table[BURR_TABLE], kept[BURR_TABLE], place = 99;
-    burr_fresh(SETTINGS(s), table, &place);
-    table[7] = table[9] = total;
-    memcpy(&table[55], shortfall, 4 * sizeof table[0]);
-    memcpy(kept, table, sizeof kept);
-    place = 99;
-    check(burr_add(table, samples, 0, &place) == number && place == 0, name, "answer");
-    check(memcmp(table, kept, sizeof kept) == 0, name, "add wrote");
+    for (uint64_t set = 0; set < SETS; set++) {
+        uint64_t table[BURR_TABLE], place = 99;
+        burr_fresh(SETTINGS(s), set, table, &place);
+        table[8] = table[10] = total;
+        memcpy(&table[56], shortfall, 4 * sizeof table[0]);
+        offered(name, table, number);
+    }
 }
 
 /* Shortfalls of a, b and c that add up to the whole or don't. Under the largest settings a full table's may be 15.36 x 10^18.
@@ -397,34 +619,40 @@ static void short_tables(void)
     short_table("shortfalls below a large one that wrap round", most, 4000000, below, 9);
 }
 
-/* The largest numbers: reason 5 under good settings, 6 under settings that are the largest too. */
+/* The largest numbers: reason 5 under good settings and a set, 6 where settings or set are the largest too. */
 static void largest(void)
 {
     uint64_t most[BURR_EVENT];
-    double severity = -1, energy = -1;
     fill(most, BURR_EVENT, UINT64_MAX);
-    check(burr_reason(SETTINGS(settings), EVENT(most)) == 5, "largest event", "reason");
-    check(burr_cell(SETTINGS(settings), EVENT(most)) == 40, "largest event", "cell");
-    check(burr_score(SETTINGS(settings), EVENT(most), &severity, &energy) == 5, "largest event", "score's reason");
-    check(burr_reason(SETTINGS(most), EVENT(most)) == 6, "largest numbers", "reason");
-    check(burr_cell(SETTINGS(most), EVENT(most)) == 40, "largest numbers", "cell");
-    check(burr_score(SETTINGS(most), EVENT(most), &severity, &energy) == 6, "largest numbers", "score's reason");
-    check(severity == -1 && energy == -1, "largest numbers", "a float written");
+    for (uint64_t set = 0; set < SETS; set++) {
+        unscored("largest event", settings, set, most, 5, not_scored[set]);
+        unscored("largest settings and event", most, set, most, 6, not_scored[set]);
+    }
+    unscored("largest set and event", settings, UINT64_MAX, most, 6, 40);
+    unscored("largest numbers", most, UINT64_MAX, most, 6, 40);
 }
 
 int main(void)
 {
+    check(BURR_UNIPEDE == 0 && BURR_UNIPEDE_CELLS == 40, "header", "set 0");
+    check(BURR_IEC == 1 && BURR_IEC_CELLS == 25, "header", "set 1");
     for (size_t i = 0; i < CASES; i++) {
         list(&known[i]);
-        site(&known[i]);
+        for (uint64_t set = 0; set < SETS; set++)
+            site(&known[i], set);
     }
     for (size_t i = 0; i < JUDGED; i++)
         ask(judged[i].name, judged[i].settings, &judged[i].answer);
+    borders();
     turned_away();
     room_for_one();
     each_channel();
     bad_settings();
-    bad_tables();
+    for (uint64_t set = 0; set < SETS; set++) {
+        bad_tables(set);
+        cells_of_a_table(set);
+        every_cell(set);
+    }
     short_tables();
     largest();
     if (wrong > 0)
