@@ -1,6 +1,6 @@
 //! What is turned away: its number, its place, and all lent memory as it was.
 mod common;
-use common::{blocks, dip, MISSING, SETTINGS};
+use common::{blocks, dip, MISSING, NOT_SCORED, SETS, SETTINGS, UNKNOWN};
 use host::{add, cell, fresh, list, raw, reason, score, Event, Refused, Settings, Table, TABLE, WORDS};
 
 /// Settings of which one is outside its range, and its number.
@@ -56,22 +56,71 @@ fn add_refused(table: &Table, samples: &[i32], number: u64, place: u64) {
     assert_eq!(&lent, table);
 }
 
-/// Both calls that take samples refuse them alike.
+/// Both calls that take samples refuse them alike, and a table of either set.
 fn both_refused(samples: &[i32], number: u64, place: u64) {
     list_refused(&SETTINGS, samples, 23, number, place);
-    add_refused(&fresh(&SETTINGS).1, samples, number, place);
+    for set in SETS {
+        add_refused(&fresh(&SETTINGS, set).1, samples, number, place);
+    }
 }
 
+/// A table that is not made: refusal 1, all 60 numbers written with 0, and nothing beyond them.
+fn not_made(s: &Settings, set: u64, place: u64) {
+    assert_eq!(fresh(s, set), (Err(refused(1, place)), [0; TABLE]));
+    let (mut lent, mut at) = ([9; TABLE + 1], 9);
+    // SAFETY: the table has the 60 numbers that the library writes, and one more.
+    let number = unsafe {
+        #[rustfmt::skip]
+        let number = raw::burr_fresh(
+            s.n, s.r, s.f, s.sag, s.interruption, s.swell, s.hysteresis, set, lent.as_mut_ptr(), &mut at,
+        );
+        number
+    };
+    assert_eq!((number, at), (1, place));
+    assert_eq!((&lent[..TABLE], lent[TABLE]), (&[0; TABLE][..], 9));
+}
+
+/// An event that has no score.
+fn unscored(s: &Settings, set: u64, event: &Event, why: u64, at: u64) {
+    assert_eq!(reason(s, set, event), why, "set {set}: {event:?}");
+    assert_eq!(cell(s, set, event), at, "set {set}: {event:?}");
+    assert_eq!(score(s, set, event), Err(why), "set {set}: {event:?}");
+}
+
+/// It is told before an unknown set.
 #[test]
 fn first_bad_setting() {
     for (place, s) in &BAD {
         list_refused(s, &dip(500), 23, 1, *place);
-        assert_eq!(fresh(s), (Err(refused(1, *place)), [0; TABLE]));
-        assert_eq!(reason(s, &SAG), 6);
-        assert_eq!(cell(s, &SAG), 40);
-        assert_eq!(score(s, &SAG), Err(6));
+        for (set, at) in SETS.into_iter().zip(NOT_SCORED) {
+            not_made(s, set, *place);
+            unscored(s, set, &SAG, 6, at);
+        }
+        for set in UNKNOWN {
+            not_made(s, set, *place);
+            unscored(s, set, &SAG, 6, 40);
+        }
     }
     list_refused(&Settings { f: 51, swell: 0, ..SETTINGS }, &[], 0, 1, 3);
+}
+
+/// Refusal 1 with place 8 for a fresh table; reason 6 with cell 40, whatever the event; refusal 9 for a table offered.
+#[test]
+fn unknown_set() {
+    let unseen = [1, 0, 2, 2, 2000000, 500, 27000000, 0, 9000000, 9000000, 9000000];
+    for set in UNKNOWN {
+        not_made(&SETTINGS, set, 8);
+        for event in [SAG, INTERRUPTION, SWELL, unseen, [0; WORDS], [u64::MAX; WORDS]] {
+            unscored(&SETTINGS, set, &event, 6, 40);
+        }
+        for made_for in SETS {
+            let mut table = fresh(&SETTINGS, made_for).1;
+            assert_eq!(add(&mut table, &dip(500)), Ok(()));
+            table[7] = set;
+            add_refused(&table, &dip(500), 9, 0);
+            add_refused(&table, &[1], 9, 0);
+        }
+    }
 }
 
 #[test]
@@ -132,36 +181,73 @@ fn room_below_the_events() {
 
 #[test]
 fn table_is_full() {
-    let mut table = fresh(&SETTINGS).1;
-    (table[7], table[8]) = (3_999_996, 3_999_996);
-    add_refused(&table, &dip(500), 8, 4);
-    (table[7], table[8]) = (3_999_995, 3_999_995);
-    assert_eq!(add(&mut table, &dip(500)), Ok(()));
-    assert_eq!(table[7], 4_000_000);
-    add_refused(&table, &dip(500), 8, 0);
+    for set in SETS {
+        let mut table = fresh(&SETTINGS, set).1;
+        (table[8], table[9]) = (3_999_996, 3_999_996);
+        add_refused(&table, &dip(500), 8, 4);
+        (table[8], table[9]) = (3_999_995, 3_999_995);
+        assert_eq!(add(&mut table, &dip(500)), Ok(()));
+        assert_eq!(table[8], 4_000_000);
+        add_refused(&table, &dip(500), 8, 0);
+    }
 }
 
 #[test]
 fn unsound_table() {
     add_refused(&[0; TABLE], &dip(500), 9, 0);
     add_refused(&[u64::MAX; TABLE], &dip(500), 9, 0);
-    let mut sound = fresh(&SETTINGS).1;
-    assert_eq!(add(&mut sound, &dip(0)), Ok(()));
-    // Settings; total; each class; a cell; unplaced; each kind; shortfall, and that of each channel.
-    let counts = [(0, 1), (7, 1), (8, 1), (9, 1), (10, 1), (30, 1), (51, 1), (52, 5), (53, 5), (54, 6)];
-    for (at, by) in counts.into_iter().chain([(55, 1), (56, 1), (57, 1), (58, 1)]) {
-        let mut table = sound;
-        table[at] += by;
-        add_refused(&table, &dip(500), 9, 0);
+    for set in SETS {
+        let mut sound = fresh(&SETTINGS, set).1;
+        assert_eq!(add(&mut sound, &dip(0)), Ok(()));
+        // Settings; set; total; each class; a cell; unplaced; each kind; shortfall, and that of each channel.
+        let counts = [(0, 1), (7, 2), (8, 1), (9, 1), (10, 1), (11, 1), (31, 1), (52, 1), (53, 5), (54, 5), (55, 6)];
+        for (at, by) in counts.into_iter().chain([(56, 1), (57, 1), (58, 1), (59, 1)]) {
+            let mut table = sound;
+            table[at] += by;
+            add_refused(&table, &dip(500), 9, 0);
+        }
     }
 }
 
-/// A table of so many half-cycles, all disturbed, with a shortfall and those of a, b and c.
-fn short(s: &Settings, total: u64, whole: u64, parts: [u64; 3]) -> Table {
-    let mut table = fresh(s).1;
-    (table[7], table[9], table[55]) = (total, total, whole);
-    table[56..].copy_from_slice(&parts);
-    table
+/// A sag in each cell, counted among the sags or not. In a cell that the set does not have it is refused either way.
+#[test]
+fn cells_of_a_table() {
+    for (set, cells) in [(0, 40), (1, 25)] {
+        let mut empty = fresh(&SETTINGS, set).1;
+        (empty[8], empty[10]) = (5, 5);
+        for cell in 0..40 {
+            let mut table = empty;
+            table[12 + cell] = 1;
+            add_refused(&table, &dip(500), 9, 0);
+            table[53] = 1;
+            if cell < cells {
+                assert_eq!(add(&mut table, &dip(500)), Ok(()), "set {set}, cell {cell}");
+            } else {
+                add_refused(&table, &dip(500), 9, 0);
+            }
+        }
+        for (first, second) in [(0, 24), (25, 39)] {
+            let mut table = empty;
+            (table[12 + first], table[12 + second]) = (HALF, HALF);
+            add_refused(&table, &dip(500), 9, 0);
+        }
+    }
+}
+
+/// Tables of each set, of so many half-cycles, all disturbed, with a shortfall and those of a, b and c.
+fn short(s: &Settings, total: u64, whole: u64, parts: [u64; 3]) -> [Table; 2] {
+    SETS.map(|set| {
+        let mut table = fresh(s, set).1;
+        (table[8], table[10], table[56]) = (total, total, whole);
+        table[57..].copy_from_slice(&parts);
+        table
+    })
+}
+
+fn both_tables_refused(tables: [Table; 2], samples: &[i32], number: u64, place: u64) {
+    for table in &tables {
+        add_refused(table, samples, number, place);
+    }
 }
 
 /// Not more than 3 x N x R x R x total, and no bound for a single channel.
@@ -169,10 +255,12 @@ fn short(s: &Settings, total: u64, whole: u64, parts: [u64; 3]) -> Table {
 fn shortfall_of_a_table() {
     let most = 3 * 8 * 1000 * 1000 * 5;
     for parts in [[most, 0, 0], [0, most, 0], [0, 0, most], [most / 3; 3], [1, most - 3, 2]] {
-        assert_eq!(add(&mut short(&SETTINGS, 5, most, parts), &dip(500)), Ok(()), "{parts:?}");
+        for mut table in short(&SETTINGS, 5, most, parts) {
+            assert_eq!(add(&mut table, &dip(500)), Ok(()), "{parts:?}");
+        }
     }
     for parts in [[most + 1, 0, 0], [most / 3, most / 3 + 1, most / 3]] {
-        add_refused(&short(&SETTINGS, 5, most + 1, parts), &[], 9, 0);
+        both_tables_refused(short(&SETTINGS, 5, most + 1, parts), &[], 9, 0);
     }
 }
 
@@ -183,14 +271,14 @@ fn shortfalls_of_a_table_that_do_not_add_up() {
         for part in [11_999_999, 12_000_001, 0, u64::MAX] {
             let mut parts = good;
             parts[channel] = part;
-            add_refused(&short(&SETTINGS, 5, 36_000_000, parts), &dip(500), 9, 0);
+            both_tables_refused(short(&SETTINGS, 5, 36_000_000, parts), &dip(500), 9, 0);
         }
     }
     for whole in [35_999_999, 36_000_001] {
-        add_refused(&short(&SETTINGS, 5, whole, good), &dip(500), 9, 0);
+        both_tables_refused(short(&SETTINGS, 5, whole, good), &dip(500), 9, 0);
     }
     for parts in [[HALF, HALF, 36_000_000], [u64::MAX, 0, 36_000_001], [u64::MAX, u64::MAX, 36_000_002]] {
-        add_refused(&short(&SETTINGS, 5, 36_000_000, parts), &dip(500), 9, 0);
+        both_tables_refused(short(&SETTINGS, 5, 36_000_000, parts), &dip(500), 9, 0);
     }
 }
 
@@ -201,16 +289,16 @@ fn large_shortfalls_of_a_table_that_wrap_round() {
     let largest = Settings { n: 512, r: 50_000, ..SETTINGS };
     let whole = 15_000_000_000_000_000_000;
     let parts = [12_000_000_000_000_000_000, 12_000_000_000_000_000_000, 9_446_744_073_709_551_616];
-    add_refused(&short(&largest, 4_000_000, whole, [whole / 3; 3]), &[], 3, 0);
-    add_refused(&short(&largest, 4_000_000, whole, parts), &[], 9, 0);
+    both_tables_refused(short(&largest, 4_000_000, whole, [whole / 3; 3]), &[], 3, 0);
+    both_tables_refused(short(&largest, 4_000_000, whole, parts), &[], 9, 0);
     let [a, b, c] = parts;
-    add_refused(&short(&largest, 4_000_000, whole, [c, a, b]), &[], 9, 0);
-    add_refused(&short(&largest, 4_000_000, whole, [b, c, a]), &[], 9, 0);
+    both_tables_refused(short(&largest, 4_000_000, whole, [c, a, b]), &[], 9, 0);
+    both_tables_refused(short(&largest, 4_000_000, whole, [b, c, a]), &[], 9, 0);
 }
 
 #[test]
 fn not_an_event() {
-    assert_eq!(reason(&SETTINGS, &SAG), 0);
+    assert_eq!(SETS.map(|set| reason(&SETTINGS, set, &SAG)), [0, 0]);
     // Kind, start, end, seen, extreme, retained, type.
     for (at, word) in [(0, 0), (0, 4), (1, 4), (2, 100_001), (3, 4), (4, 6_480_000), (5, 501), (7, 7)] {
         let mut event = SAG;
@@ -222,9 +310,9 @@ fn not_an_event() {
 }
 
 fn assert_not_an_event(event: &Event) {
-    assert_eq!(reason(&SETTINGS, event), 5, "{event:?}");
-    assert_eq!(cell(&SETTINGS, event), 40, "{event:?}");
-    assert_eq!(score(&SETTINGS, event), Err(5), "{event:?}");
+    for (set, at) in SETS.into_iter().zip(NOT_SCORED) {
+        unscored(&SETTINGS, set, event, 5, at);
+    }
 }
 
 fn with_type_1(mut event: Event) -> Event {
@@ -243,12 +331,12 @@ fn with_parts(mut event: Event, whole: u64, parts: [u64; 3]) -> Event {
 fn shortfall_of_an_event() {
     let most = 72_000_000;
     for parts in [[most, 0, 0], [0, most, 0], [0, 0, most], [most / 3; 3], [1, most - 3, 2]] {
-        assert_eq!(reason(&SETTINGS, &with_parts(SAG, most, parts)), 0, "{parts:?}");
+        assert_eq!(SETS.map(|set| reason(&SETTINGS, set, &with_parts(SAG, most, parts))), [0, 0], "{parts:?}");
     }
     assert_not_an_event(&with_parts(SAG, most + 1, [most + 1, 0, 0]));
     assert_not_an_event(&with_parts(SAG, most + 1, [24_000_000, 24_000_000, 24_000_001]));
     for event in [INTERRUPTION, SWELL] {
-        assert_eq!(reason(&SETTINGS, &event), 4);
+        assert_eq!(SETS.map(|set| reason(&SETTINGS, set, &event)), [4, 4]);
         assert_not_an_event(&with_parts(event, 1, [0, 1, 0]));
     }
 }
@@ -275,32 +363,49 @@ fn shortfalls_of_an_event_that_do_not_add_up() {
 
 #[test]
 fn largest_numbers() {
-    assert_eq!(reason(&SETTINGS, &[u64::MAX; WORDS]), 5);
-    assert_eq!(cell(&SETTINGS, &[u64::MAX; WORDS]), 40);
-    assert_eq!(score(&SETTINGS, &[u64::MAX; WORDS]), Err(5));
-    assert_eq!(reason(&MOST, &[u64::MAX; WORDS]), 6);
-    assert_eq!(cell(&MOST, &[u64::MAX; WORDS]), 40);
-    assert_eq!(score(&MOST, &[u64::MAX; WORDS]), Err(6));
+    for (set, at) in SETS.into_iter().zip(NOT_SCORED) {
+        unscored(&SETTINGS, set, &[u64::MAX; WORDS], 5, at);
+        unscored(&MOST, set, &[u64::MAX; WORDS], 6, at);
+    }
+    unscored(&MOST, u64::MAX, &[u64::MAX; WORDS], 6, 40);
     list_refused(&MOST, &[i32::MAX; 30], 23, 1, 1);
-    assert_eq!(fresh(&MOST), (Err(refused(1, 1)), [0; TABLE]));
+    not_made(&MOST, u64::MAX, 1);
 }
 
 #[test]
 fn floats_stay_where_there_is_no_score() {
     let unseen = [1, 0, 2, 2, 2000000, 500, 27000000, 0, 9000000, 9000000, 9000000];
     let not_added_up = with_parts(SAG, 36000000, [12000001, 12000000, 12000000]);
-    for (event, why) in [(INTERRUPTION, 4), ([u64::MAX; WORDS], 5), (not_added_up, 5), (unseen, 1)] {
+    let events = [(INTERRUPTION, 4), ([u64::MAX; WORDS], 5), (not_added_up, 5), (unseen, 1)];
+    let known = SETS.into_iter().flat_map(|set| events.map(|(event, why)| (set, event, why)));
+    for (set, event, why) in known.chain(UNKNOWN.map(|set| (set, SAG, 6))) {
         let [kind, start, end, seen, extreme, retained, shortfall, class, short_a, short_b, short_c] = event;
         let (mut severity, mut energy) = (0.25, 0.75);
         // SAFETY: both floats are this test's own.
         let given = unsafe {
             #[rustfmt::skip]
             let given = raw::burr_score(
-                8, 1000, 50, 90, 10, 110, 2, kind, start, end, seen, extreme, retained, shortfall, class,
+                8, 1000, 50, 90, 10, 110, 2, set, kind, start, end, seen, extreme, retained, shortfall, class,
                 short_a, short_b, short_c, &mut severity, &mut energy,
             );
             given
         };
         assert_eq!((given, severity, energy), (why, 0.25, 0.75));
+    }
+}
+
+/// A table lent with one number more, which stays.
+#[test]
+fn nothing_beyond_the_table() {
+    for set in SETS {
+        let (mut lent, mut place, samples) = ([9; TABLE + 1], 9, dip(500));
+        // SAFETY: the table has 60 numbers and one more, and the samples' pointer goes with their length.
+        let made = unsafe { raw::burr_fresh(8, 1000, 50, 90, 10, 110, 2, set, lent.as_mut_ptr(), &mut place) };
+        assert_eq!((made, place, lent[TABLE]), (0, 0, 9));
+        assert_eq!(lent[..TABLE], fresh(&SETTINGS, set).1);
+        place = 9;
+        // SAFETY: as above.
+        let added = unsafe { raw::burr_add(lent.as_mut_ptr(), samples.as_ptr(), samples.len(), &mut place) };
+        assert_eq!((added, place, lent[8], lent[TABLE]), (0, 0, 5, 9));
     }
 }
