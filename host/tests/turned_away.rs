@@ -30,8 +30,9 @@ const MOST: Settings = Settings {
     hysteresis: u64::MAX,
 };
 
-/// K2's sag, K6's interruption, K10's swell.
+/// K2's sag, K8's with an unseen start, K6's interruption, K10's swell.
 const SAG: Event = [1, 1, 4, 3, 2000000, 500, 36000000, 0, 12000000, 12000000, 12000000];
+const UNSEEN: Event = [1, 0, 2, 2, 2000000, 500, 27000000, 0, 9000000, 9000000, 9000000];
 const INTERRUPTION: Event = [2, 2, 3, 3, 0, 0, 0, 0, 0, 0, 0];
 const SWELL: Event = [3, 1, 4, 3, 11520000, 1200, 0, 0, 0, 0, 0];
 
@@ -87,7 +88,7 @@ fn unscored(s: &Settings, set: u64, event: &Event, why: u64, at: u64) {
     assert_eq!(score(s, set, event), Err(why), "set {set}: {event:?}");
 }
 
-/// It is told before an unknown set.
+/// A bad setting is told before an unknown set.
 #[test]
 fn first_bad_setting() {
     for (place, s) in &BAD {
@@ -107,10 +108,9 @@ fn first_bad_setting() {
 /// Refusal 1 with place 8 for a fresh table; reason 6 with cell 40, whatever the event; refusal 9 for a table offered.
 #[test]
 fn unknown_set() {
-    let unseen = [1, 0, 2, 2, 2000000, 500, 27000000, 0, 9000000, 9000000, 9000000];
     for set in UNKNOWN {
         not_made(&SETTINGS, set, 8);
-        for event in [SAG, INTERRUPTION, SWELL, unseen, [0; WORDS], [u64::MAX; WORDS]] {
+        for event in [SAG, UNSEEN, INTERRUPTION, SWELL, [0; WORDS], [u64::MAX; WORDS]] {
             unscored(&SETTINGS, set, &event, 6, 40);
         }
         for made_for in SETS {
@@ -374,9 +374,8 @@ fn largest_numbers() {
 
 #[test]
 fn floats_stay_where_there_is_no_score() {
-    let unseen = [1, 0, 2, 2, 2000000, 500, 27000000, 0, 9000000, 9000000, 9000000];
     let not_added_up = with_parts(SAG, 36000000, [12000001, 12000000, 12000000]);
-    let events = [(INTERRUPTION, 4), ([u64::MAX; WORDS], 5), (not_added_up, 5), (unseen, 1)];
+    let events = [(INTERRUPTION, 4), ([u64::MAX; WORDS], 5), (not_added_up, 5), (UNSEEN, 1)];
     let known = SETS.into_iter().flat_map(|set| events.map(|(event, why)| (set, event, why)));
     for (set, event, why) in known.chain(UNKNOWN.map(|set| (set, SAG, 6))) {
         let [kind, start, end, seen, extreme, retained, shortfall, class, short_a, short_b, short_c] = event;
