@@ -21,9 +21,9 @@
  * swell the largest; retained is its rms value in thousandths of r, to the nearest, halves upward. Thresholds and rows go by
  * the extreme and not by it: a sag below 90 percent may have retained 900.
  *
- * A sag with a score has one cell by each of two sets of borders: number of columns x row + column. Rows count from the
- * deepest, by the extreme's rms value in percent of r; columns from the shortest, by h = end - start half-cycles. A set is
- * told by its number, and any number but these two is an unknown set:
+ * A sag with a score has one cell by each of two sets of borders: number of columns x row + column. Row 0 is the deepest, by
+ * the extreme's rms value in percent of r, and column 0 the shortest, by h = end - start half-cycles. A set is told by its
+ * number, and any number but these two is an unknown set:
  *
  *     0  UNIPEDE (BURR_UNIPEDE): cells 0 to 39
  *            rows     at most 10, 40, 70, 85 percent; above

@@ -1,5 +1,5 @@
 //! The proved library as a Rust host calls it: the one place that declares its functions, and a safe wrapper for each.
-//! Nothing here works out an answer.
+//! Nothing here works out an answer. A set of borders is 0, UNIPEDE's, or 1, that of IEC 61000-4-11 (`include/burrcradle.h`).
 
 /// The seven settings, in the order of the rules.
 #[derive(Clone, Copy, Debug, PartialEq, Eq)]
