@@ -117,12 +117,12 @@ none-of a b c d e f g h i j k q =
 
 -- the cells that some borders don't use are 0
 module _ (b : Borders) (cs : List ℕ) where
-  unused-zero : unusedZero b cs ≡ true → (i : ℕ) → cellsIn b ≤ i → i < cells → getD cs i 0 ≡ 0
+  pub unused-zero : unusedZero b cs ≡ true → (i : ℕ) → cellsIn b ≤ i → i < cells → getD cs i 0 ≡ 0
   unused-zero h i l u =
       let q = all-at (λ i. ltb i (cellsIn b) || eqb (getD cs i 0) 0) cells h i u in
       eqb-true (getD cs i 0) 0 (or-else (ltb i (cellsIn b)) (eqb (getD cs i 0) 0) q (le-ltb i (cellsIn b) l))
 
-  zero-unused : ((i : ℕ) → cellsIn b ≤ i → i < cells → getD cs i 0 ≡ 0) → unusedZero b cs ≡ true
+  pub zero-unused : ((i : ℕ) → cellsIn b ≤ i → i < cells → getD cs i 0 ≡ 0) → unusedZero b cs ≡ true
   zero-unused h =
       all-true (λ i. ltb i (cellsIn b) || eqb (getD cs i 0) 0) cells
       (λ i u. or-by (ltb i (cellsIn b)) (eqb (getD cs i 0) 0) (λ e. eq-eqb (getD cs i 0) 0 (h i (ltb-false i (cellsIn b) e) u)))

@@ -16,13 +16,14 @@ use Rattle.rules.specs.Bounded.{count}
 use Rattle.rules.specs.Recorder.{settingsGood, badSetting}
 use Rattle.rules.specs.Halves.{halfAt, halvesOf, full}
 use Rattle.rules.specs.Events.{three, makeUp, plus}
-use Rattle.rules.specs.Site.{cells, isPlaced, sagCell, total, cellsFrom, empty, grown, isUnsound}
+use Rattle.rules.specs.Borders.{knownSet, bordersOf}
+use Rattle.rules.specs.Site.{cells, isPlaced, sagCell, unusedZero, total, cellsFrom, empty, grown, isUnsound}
 use Rattle.rules.specs.Refusals.{recordingCheck, soundCheck, fullCheck, addCheck, added}
-use Rattle.rules.proofs.Booleans.{cases, neither, not-both}
+use Rattle.rules.proofs.Booleans.{cases, both, and-true, neither, not-both}
 use Rattle.rules.proofs.Choices.{lower}
 use Rattle.rules.proofs.Ranges.{good, full-high}
 use Rattle.rules.specs.Demands.{Sound}
-use Rattle.rules.proofs.DemandThree.{cells-length, cells-at, sound-parts, sound-made, grown-sound}
+use Rattle.rules.proofs.DemandThree.{cells-length, cells-at, unused-zero, zero-unused, sound-parts, sound-made, grown-sound}
 use Rattle.rules.specs.declared.Table.{Table}
 use Rattle.rules.specs.declared.Refusal.{Refusal}
 use Rattle.rules.specs.declared.Refusal.the-variants.{Full, Unsound}
@@ -77,6 +78,17 @@ module _ (t : Table) where
   unfolding settingsGood
   settings-fine e = eq-eqb (badSetting (t .settings)) 0 e
 
+  abbrev pub set-test : Bool
+  set-test = knownSet (t .set) && unusedZero (bordersOf (t .settings) (t .set)) (t .cells)
+
+  pub set-bad : set-test ≡ false → true ≡ isUnsound t
+  set-bad e =
+      unsound-when (λ s.
+      not-both set-test
+      (and-true (knownSet (t .set)) (unusedZero (bordersOf (t .settings) (t .set)) (t .cells)) (s .known-set)
+      (zero-unused (bordersOf (t .settings) (t .set)) (t .cells) (s .unused)))
+      e)
+
   pub total-bad : 4000000 < t .total → true ≡ isUnsound t
   total-bad l = unsound-when (λ s. omega (arith, s .total-high))
 
@@ -116,9 +128,10 @@ module _ (t : Table) where
   pub parts-bad : makeUp (t .parts) (t .shortfall) ≡ false → true ≡ isUnsound t
   parts-bad e = unsound-when (λ s. eqb-false (three (t .parts)) (t .shortfall) e (s .parts))
 
-  pub shortfall-tells : settingsGood (t .settings) ≡ true → t .total ≤ 4000000 → CountsFine → eqb (t .healthy + t .disturbed + t .unknown) (t .total) ≡ true
+  pub shortfall-tells : set-test ≡ true → settingsGood (t .settings) ≡ true → t .total ≤ 4000000 → CountsFine → eqb (t .healthy + t .disturbed + t .unknown) (t .total) ≡ true
       → eqb (total (t .cells) + t .unplaced) (t .sags) ≡ true → makeUp (t .parts) (t .shortfall) ≡ true → ltb (3 * full (t .settings) * t .total) (t .shortfall) ≡ isUnsound t
-  shortfall-tells g l c d e m =
+  shortfall-tells set g l c d e m =
+      let fits = both (knownSet (t .set)) (unusedZero (bordersOf (t .settings) (t .set)) (t .cells)) set in
       ⊎-elim
       (λ x. x ∙ unsound-when (λ s. omega (arith, s .shortfall-high, ltb-true (3 * full (t .settings) * t .total) (t .shortfall) x)))
       (λ x.
@@ -126,9 +139,11 @@ module _ (t : Table) where
       ∙ sym (sound-made t
       (record {
         good-settings = g;
+        known-set = fits .0;
         total-high = l;
         classes = eqb-true (t .healthy + t .disturbed + t .unknown) (t .total) d;
         places = eqb-true (total (t .cells) + t .unplaced) (t .sags) e;
+        unused = unused-zero (bordersOf (t .settings) (t .set)) (t .cells) (fits .1);
         sags-high = c .sags-high;
         interruptions-high = c .interruptions-high;
         swells-high = c .swells-high;
@@ -186,7 +201,7 @@ total-at (c ∷ cs) (suc i) = omega (arith, total-at cs i)
 
 module _ (t : Table) (xs : List ℤ) (forty : length (t .cells) ≡ 40) where
   abbrev u : Table
-  u = grown (empty (t .settings)) xs
+  u = grown (empty (t .settings) (t .set)) xs
 
   cells-again : (g : ℕ → ℕ) → cellsFrom (λ i. getD (cellsFrom g (replicate cells 0) 0) i 0) (t .cells) 0 ≡ cellsFrom g (t .cells) 0
   cells-again g =
@@ -211,7 +226,7 @@ module _ (t : Table) (xs : List ℤ) (forty : length (t .cells) ≡ 40) where
   gain i =
       let h = halfAt (t .settings) xs in
       let n = halvesOf (t .settings) xs in
-      count (λ k. isPlaced (t .settings) h n k && eqb (sagCell (t .settings) h n k) i) n
+      count (λ k. isPlaced (t .settings) h n k && eqb (sagCell (t .settings) (bordersOf (t .settings) (t .set)) h n k) i) n
 
   pub merged-grown : merged t u ≡ grown t xs
   unfolding merged grown
@@ -281,7 +296,7 @@ module _ (t : Table) (xs : List ℤ) (forty : length (t .cells) ≡ 40) where
 
   -- ---- what the pass over the recording answers, and its table
 
-  module _ (sound : isUnsound t ≡ false) (r : Handed) (is : r ≡ tabled (t .settings) xs) where
+  module _ (sound : isUnsound t ≡ false) (r : Handed) (is : r ≡ tabled (t .settings) (t .set) xs) where
     answer-is : r .answer ≡ recordingCheck (t .settings) xs
     unfolding tabled
     answer-is = rw is

@@ -1,11 +1,12 @@
 // The site table: fresh for its settings, and grown by a recording.
 ghost use mathlib.Core.Path.{_≡_};
-ghost use mathlib.Core.Bool.{false, _||_};
+ghost use mathlib.Core.Bool.{true, false, _&&_, _||_};
 ghost use Prim.Native.Nat.{ℕ, _+_, _≤_, min as lesser};
 ghost use lib.Dec.{ltb, eqb};
 ghost use lib.ListN.{getD};
 ghost use Rattle.rules.specs.Bounded.{all};
-ghost use Rattle.rules.specs.Site.{total, cellsFrom, zeroSettings, isUnsound};
+ghost use Rattle.rules.specs.Borders.{knownSet, bordersOf};
+ghost use Rattle.rules.specs.Site.{unusedZero, total, cellsFrom, zeroSettings, isUnsound};
 ghost use Rattle.rules.specs.Refusals.{settingsCheck, setCheck, andThen, freshened, added};
 ghost use Rattle.rules.specs.declared.Taken.the-variants.{Accepted};
 ghost use Rattle.checks.specs.Flags.{shapeCheck};
@@ -68,16 +69,24 @@ fn unused_zero(cells: [u64; 40], used: u64) -> bool
     zero
 }
 
-// Refusal 9, for any numbers: each is bounded before it is added to another.
-fn is_unsound(t: Table) -> bool
+// Whether a set of borders is known, and the cells that it does not use are 0.
+fn set_fits(set: u64, cells: [u64; 40]) -> bool
+    ensures { λ r. ⌜ ((s : Settings) → r ≡ (knownSet set && unusedZero (bordersOf s set) cells)) ⌝ }
+{
+    if !known_set(set) {
+        return false;
+    }
+    unused_zero(cells, not_scored(set))
+}
+
+// Refusal 9 for any numbers, of a table whose set fits: each number is bounded before it is added to another.
+fn miscounted(t: Table) -> bool
+    requires { ⌜ (knownSet (t .set) && unusedZero (bordersOf (t .settings) (t .set)) (t .cells)) ≡ true ⌝ }
     ensures { λ r. ⌜ r ≡ isUnsound t ⌝ }
 {
     let s = t.settings;
     let cells = t.cells;
     if first_bad_setting(s) != 0 {
-        return true;
-    }
-    if !known_set(t.set) {
         return true;
     }
     if 4000000 < t.total {
@@ -92,14 +101,22 @@ fn is_unsound(t: Table) -> bool
     if !sags_add_up(cells, t.unplaced, t.sags) {
         return true;
     }
-    if !unused_zero(cells, not_scored(t.set)) {
-        return true;
-    }
     let parts = t.parts;
     if !adds_up(t.shortfall, parts.a, parts.b, parts.c) {
         return true;
     }
     3 * full_of(s) * t.total < t.shortfall
+}
+
+// Refusal 9, for any numbers.
+fn is_unsound(t: Table) -> bool
+    ensures { λ r. ⌜ r ≡ isUnsound t ⌝ }
+{
+    let cells = t.cells;
+    if !set_fits(t.set, cells) {
+        return true;
+    }
+    miscounted(t)
 }
 
 // Cell by cell.

@@ -11,7 +11,7 @@ forty-cells : (c : tie.Start) → length (c .args .t .cells) ≡ 40
 forty-cells c = search needs
 
 table-of-requires : tie.Need-table-of-requires
-table-of-requires c κs = (sound-parts _ (c .pre .0) .good-settings, c .pre .1)
+table-of-requires c κs = let r = sound-parts _ (c .pre .0) in (r .good-settings, r .known-set, c .pre .1)
 
 enum-told : tie.Need-enum-told
 enum-told c = search needs

@@ -6,8 +6,8 @@ use borrow.Author.Needs.{needs}
 use Rattle.site.proofs.fresh.Statement.{statement}
 use Rattle.site.proofs.fresh.Tie as tie
 
-check-settings-requires : tie.Need-check-settings-requires
-check-settings-requires c κs = search needs
+check-making-requires : tie.Need-check-making-requires
+check-making-requires c κs = search needs
 
 enum-told : tie.Need-enum-told
 enum-told c = search needs
@@ -26,17 +26,17 @@ empty-table-requires-2 c κs = search needs
 
 returns : tie.Need-returns
 unfolding freshened
-returns c = rw (sym (c .before .before .before .check-settings .ensures) ∙ c .before .enum-told .given .1, c .empty-table .ensures)
+returns c = rw (sym (c .before .before .before .check-making .ensures) ∙ c .before .enum-told .given .1, c .empty-table .ensures)
 
 returns-2 : tie.Need-returns-2
 unfolding freshened
-returns-2 c = rw (sym (c .before .before .before .before .before .check-settings .ensures) ∙ c .before .before .before .checked .given .1, c .empty-table2 .ensures, c .before .no-settings .ensures)
+returns-2 c = rw (sym (c .before .before .before .before .before .check-making .ensures) ∙ c .before .before .before .checked .given .1, c .empty-table2 .ensures, c .before .no-settings .ensures)
 
 pub fresh-spec : {M : Type 1} → statement M
 fresh-spec =
     tie.close
     (tie.spec
-    check-settings-requires
+    check-making-requires
     enum-told
     empty-table-requires
     enum-known-checked
