@@ -9,19 +9,20 @@ use native.Mathlib.Omega.{arith}
 use borrow.Author.Tests.{eqb-true, eqb-false}
 use lib.Dec.{eqb}
 use lib.IntN.{ℤ}
-use lib.ListN.{length, getD, set, replicate, length-set, getD-replicate, List·getD-eq-default}
+use lib.ListN.{length, getD, set as store, replicate, length-set, getD-replicate, List·getD-eq-default}
 use lib.Seq.{ext-getD, getD-set-same, getD-set-other}
 use Rattle.rules.specs.Bounded.{before, bit, count, sum}
 use Rattle.rules.specs.Halves.{ofChannel, channels, known, halfAt, halvesOf, full}
 use Rattle.rules.specs.Events.{inEvent, starts, three}
 use Rattle.rules.specs.EventList.{eventFrom}
-use Rattle.rules.specs.Site.{cells, cellAt, isPlaced, isUnplaced, sagCell, sagSum, sagShort, cellsFrom}
+use Rattle.rules.specs.Borders.{Borders, knownSet, bordersOf, cellAt}
+use Rattle.rules.specs.Site.{cells, isPlaced, isUnplaced, sagCell, sagSum, sagShort, cellsFrom}
 use Rattle.rules.specs.Demands.{Good, AcceptedRecording}
 use Rattle.rules.proofs.Booleans.{cases, bit-le}
 use Rattle.rules.proofs.Bounded.{sum-same}
 use Rattle.rules.proofs.Choices.{lower}
 use Rattle.rules.proofs.Longest.{in-past, half-past}
-use Rattle.rules.proofs.Borders.{sag-cell-high}
+use Rattle.rules.proofs.Borders.{sag-cell-high, set-cells}
 use Rattle.rules.proofs.Ranges.{full-high}
 use Rattle.rules.proofs.Shortfall.{parts-agree, total-made-up}
 use Rattle.rules.proofs.DemandThree.{cells-length, cells-at, sag-short-high}
@@ -44,17 +45,17 @@ cells-same f g e (x ∷ cs) i = rw (e i, cells-same f g e cs (suc i))
 
 -- one more in cell c
 cells-set : (g : ℕ → ℕ) (cs : List ℕ) (c : ℕ) → c < length cs
-    → set (cellsFrom g cs 0) c (getD (cellsFrom g cs 0) c 0 + 1) ≡ cellsFrom (λ i. g i + bit (eqb c i)) cs 0
+    → store (cellsFrom g cs 0) c (getD (cellsFrom g cs 0) c 0 + 1) ≡ cellsFrom (λ i. g i + bit (eqb c i)) cs 0
 cells-set g cs c l =
-    ext-getD 0 (set (cellsFrom g cs 0) c (getD (cellsFrom g cs 0) c 0 + 1)) (cellsFrom (λ i. g i + bit (eqb c i)) cs 0)
+    ext-getD 0 (store (cellsFrom g cs 0) c (getD (cellsFrom g cs 0) c 0 + 1)) (cellsFrom (λ i. g i + bit (eqb c i)) cs 0)
     (length-set (cellsFrom g cs 0) c (getD (cellsFrom g cs 0) c 0 + 1) ∙ cells-length g cs 0 ∙ sym (cells-length (λ i. g i + bit (eqb c i)) cs 0))
     each
   where
     long : length (cellsFrom g cs 0) ≡ length cs
     long = cells-length g cs 0
 
-    each : (i : ℕ) → i < length (set (cellsFrom g cs 0) c (getD (cellsFrom g cs 0) c 0 + 1))
-        → getD (set (cellsFrom g cs 0) c (getD (cellsFrom g cs 0) c 0 + 1)) i 0 ≡ getD (cellsFrom (λ i. g i + bit (eqb c i)) cs 0) i 0
+    each : (i : ℕ) → i < length (store (cellsFrom g cs 0) c (getD (cellsFrom g cs 0) c 0 + 1))
+        → getD (store (cellsFrom g cs 0) c (getD (cellsFrom g cs 0) c 0 + 1)) i 0 ≡ getD (cellsFrom (λ i. g i + bit (eqb c i)) cs 0) i 0
     each i m =
         let u : i < length cs = omega (arith, length-set (cellsFrom g cs 0) c (getD (cellsFrom g cs 0) c 0 + 1), long) in
         let at = cells-at g cs 0 i u in
@@ -65,8 +66,8 @@ cells-set g cs c l =
         let r : eqb c (0 + i) ≡ true = rw zero-add e in
         let v = getD (cellsFrom g cs 0) c 0 + 1 in
         let w : getD (cellsFrom g cs 0) c 0 ≡ getD (cellsFrom g cs 0) i 0 = rw q in
-        let p : getD (set (cellsFrom g cs 0) c v) i 0 ≡ v =
-        subst (λ (j : ℕ). getD (set (cellsFrom g cs 0) c v) j 0 ≡ v) q (getD-set-same (cellsFrom g cs 0) c v 0 (omega (arith, long))) in
+        let p : getD (store (cellsFrom g cs 0) c v) i 0 ≡ v =
+        subst (λ (j : ℕ). getD (store (cellsFrom g cs 0) c v) j 0 ≡ v) q (getD-set-same (cellsFrom g cs 0) c v 0 (omega (arith, long))) in
         omega (arith, p, w, at, at′, ap bit r))
         (λ e.
         let q : i ≡ c → ⊥ = λ z. eqb-false c i e (sym z) in
@@ -75,52 +76,55 @@ cells-set g cs c l =
         (cases (eqb c i))
 
 module _ (s : Settings) (h : ℕ → Half) (n : ℕ) (past : (k : ℕ) → n ≤ k → h k ≡ Unknown) where
-  abbrev placed : ℕ → ℕ → ℕ
-  placed i a = bit (seenBoth s h n a && eqb (sagCell s h n a) i)
+  abbrev placed : Borders → ℕ → ℕ → ℕ
+  placed b i a = bit (seenBoth s h n a && eqb (sagCell s b h n a) i)
 
-  cell-is : (k : ℕ) → k ≤ n → lands s h n past Sag k ≡ true
-      → cellAt s (opens s h Sag k .extreme) (k - opens s h Sag k .start) ≡ sagCell s h n (opens s h Sag k .start)
+  cell-is : (b : Borders) (k : ℕ) → k ≤ n → lands s h n past Sag k ≡ true
+      → cellAt s b (opens s h Sag k .extreme) (k - opens s h Sag k .start) ≡ sagCell s b h n (opens s h Sag k .start)
   unfolding sagCell
-  cell-is k high y = rw (lands-at s h n past Sag k high y, landing s h n past Sag k high y .extreme)
+  cell-is b k high y = rw (lands-at s h n past Sag k high y, landing s h n past Sag k high y .extreme)
 
-  module _ (k : ℕ) (high : k ≤ n) where
+  module _ (set : ℕ) (known-set : knownSet set ≡ true) (k : ℕ) (high : k ≤ n) where
+    abbrev b : Borders
+    b = bordersOf s set
+
     abbrev o : Open
     o = opens s h Sag k
 
     abbrev here : ℕ → ℕ
-    here i = landed s h Sag (placed i) k
+    here i = landed s h Sag (placed b i) k
 
     abbrev all-cells : (ℕ → ℕ) → List ℕ
     all-cells g = cellsFrom g (replicate cells 0) 0
 
     abbrev Next : Type 0
-    Next = cellsBy s (lands s h n past Sag k) o k (known (h k)) (all-cells here) ≡ all-cells (λ i. landed s h Sag (placed i) (suc k))
+    Next = cellsBy s set (lands s h n past Sag k) o k (known (h k)) (all-cells here) ≡ all-cells (λ i. landed s h Sag (placed b i) (suc k))
 
     one-placed : lands s h n past Sag k ≡ true → seenBoth s h n (o .start) ≡ true → Next
     unfolding landed
-    one-placed y b =
-        let c = sagCell s h n (o .start) in
-        let left : cellsBy s (lands s h n past Sag k) o k (known (h k)) (all-cells here) ≡ set (all-cells here) c (getD (all-cells here) c 0 + 1) =
-        rw (y, seen-is s h n past k high y, b, cell-is k high y) in
+    one-placed y both-seen =
+        let c = sagCell s b h n (o .start) in
+        let left : cellsBy s set (lands s h n past Sag k) o k (known (h k)) (all-cells here) ≡ store (all-cells here) c (getD (all-cells here) c 0 + 1) =
+        rw (y, seen-is s h n past k high y, both-seen, cell-is b k high y) in
         left
-        ∙ cells-set here (replicate cells 0) c (sag-cell-high s h n (o .start))
-        ∙ cells-same (λ i. here i + bit (eqb c i)) (λ i. landed s h Sag (placed i) (suc k)) (λ i. rw (y, b)) (replicate cells 0) 0
+        ∙ cells-set here (replicate cells 0) c (omega (arith, sag-cell-high s b h n (o .start), set-cells s set known-set))
+        ∙ cells-same (λ i. here i + bit (eqb c i)) (λ i. landed s h Sag (placed b i) (suc k)) (λ i. rw (y, both-seen)) (replicate cells 0) 0
 
-    none-placed : (lands s h n past Sag k && (o .seen && known (h k))) ≡ false → ((i : ℕ) → cond (lands s h n past Sag k) (placed i (o .start)) 0 ≡ 0) → Next
+    none-placed : (lands s h n past Sag k && (o .seen && known (h k))) ≡ false → ((i : ℕ) → cond (lands s h n past Sag k) (placed b i (o .start)) 0 ≡ 0) → Next
     unfolding landed
-    none-placed y f = rw y (cells-same here (λ i. landed s h Sag (placed i) (suc k)) (λ i. rw (f i) (sym (add-zero (here i)))) (replicate cells 0) 0)
+    none-placed y f = rw y (cells-same here (λ i. landed s h Sag (placed b i) (suc k)) (λ i. rw (f i) (sym (add-zero (here i)))) (replicate cells 0) 0)
 
     by-landing : Next
     by-landing =
         ⊎-elim
         (λ y. ⊎-elim
         (one-placed y)
-        (λ b. none-placed (rw (y, seen-is s h n past k high y) b) (λ i. rw (y, b)))
+        (λ e. none-placed (rw (y, seen-is s h n past k high y) e) (λ i. rw (y, e)))
         (cases (seenBoth s h n (o .start))))
         (λ y. none-placed (rw y) (λ i. rw y))
         (cases (lands s h n past Sag k))
 
-    pub cells-next : cellsBy s (lands s h n past Sag k) o k (known (h k)) (cellsAt s h n k) ≡ cellsAt s h n (suc k)
+    pub cells-next : cellsBy s set (lands s h n past Sag k) o k (known (h k)) (cellsAt s b h n k) ≡ cellsAt s b h n (suc k)
     unfolding cellsAt
     cells-next = by-landing
 
@@ -139,15 +143,15 @@ module _ (s : Settings) (h : ℕ → Half) (n : ℕ) (past : (k : ℕ) → n ≤
   unfolding landedAt
   unplaced-few k = landed-le Sag (λ a. bit (not (seenBoth s h n a))) (λ a. bit-le (not (seenBoth s h n a))) k
 
-  pub cells-few : (k i : ℕ) → getD (cellsAt s h n k) i 0 ≤ k
+  pub cells-few : (b : Borders) (k i : ℕ) → getD (cellsAt s b h n k) i 0 ≤ k
   unfolding cellsAt
-  cells-few k i =
-      let g : ℕ → ℕ = λ i. landed s h Sag (placed i) k in
+  cells-few b k i =
+      let g : ℕ → ℕ = λ i. landed s h Sag (placed b i) k in
       let long = cells-length g (replicate cells 0) 0 in
       ⊎-elim
       (λ l.
       let at = cells-at g (replicate cells 0) 0 i l in
-      omega (arith, at, getD-replicate {A = ℕ} cells i 0 0 l, landed-le Sag (placed (0 + i)) (λ a. bit-le (seenBoth s h n a && eqb (sagCell s h n a) (0 + i))) k))
+      omega (arith, at, getD-replicate {A = ℕ} cells i 0 0 l, landed-le Sag (placed b (0 + i)) (λ a. bit-le (seenBoth s h n a && eqb (sagCell s b h n a) (0 + i))) k))
       (λ l. rw (List·getD-eq-default (cellsFrom g (replicate cells 0) 0) 0 {n = i} (omega (arith, long))) (omega arith))
       (lower i cells)
 
@@ -205,20 +209,20 @@ module _ (s : Settings) (xs : List ℤ) where
   pub shortfall-all : three (channels all-of) ≡ sagSum (λ e. e .shortfall) s xs
   shortfall-all = omega (arith, total-made-up s xs)
 
-  placed-all : (i : ℕ) → landed s h Sag (λ a. bit (seenBoth s h n a && eqb (sagCell s h n a) i)) (suc n) ≡ count (λ k. isPlaced s h n k && eqb (sagCell s h n k) i) n
+  placed-all : (b : Borders) (i : ℕ) → landed s h Sag (λ a. bit (seenBoth s h n a && eqb (sagCell s b h n a) i)) (suc n) ≡ count (λ k. isPlaced s h n k && eqb (sagCell s b h n k) i) n
   unfolding isPlaced
-  placed-all i =
-      landed-all s h n (half-past s xs) Sag (λ a. bit (seenBoth s h n a && eqb (sagCell s h n a) i))
-      ∙ sym (count-sum (λ k. isPlaced s h n k && eqb (sagCell s h n k) i) n
-      ∙ sum-same _ _ n (λ a l. ap bit (assoc (starts s h Sag a) (seenBoth s h n a) (eqb (sagCell s h n a) i)) ∙ bit-and (starts s h Sag a) (seenBoth s h n a && eqb (sagCell s h n a) i)))
+  placed-all b i =
+      landed-all s h n (half-past s xs) Sag (λ a. bit (seenBoth s h n a && eqb (sagCell s b h n a) i))
+      ∙ sym (count-sum (λ k. isPlaced s h n k && eqb (sagCell s b h n k) i) n
+      ∙ sum-same _ _ n (λ a l. ap bit (assoc (starts s h Sag a) (seenBoth s h n a) (eqb (sagCell s b h n a) i)) ∙ bit-and (starts s h Sag a) (seenBoth s h n a && eqb (sagCell s b h n a) i)))
     where
       assoc : (a b c : Bool) → (a && b) && c ≡ a && (b && c)
       assoc true b c = refl
       assoc false b c = refl
 
-  pub cells-all : cellsAt s h n (suc n) ≡ cellsFrom (λ i. count (λ k. isPlaced s h n k && eqb (sagCell s h n k) i) n) (replicate cells 0) 0
+  pub cells-all : (b : Borders) → cellsAt s b h n (suc n) ≡ cellsFrom (λ i. count (λ k. isPlaced s h n k && eqb (sagCell s b h n k) i) n) (replicate cells 0) 0
   unfolding cellsAt
-  cells-all = cells-same _ _ placed-all (replicate cells 0) 0
+  cells-all b = cells-same _ _ (placed-all b) (replicate cells 0) 0
 
   module _ (g : Good s) (ok : AcceptedRecording s xs) where
     all-low : (c : ℕ) → c < 3 → all-of c ≤ 1000000000000000000

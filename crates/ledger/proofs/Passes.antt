@@ -11,6 +11,7 @@ use Rattle.rules.specs.Bounded.{before}
 use Rattle.rules.specs.Recorder.{settingsGood}
 use Rattle.rules.specs.Halves.{known, halfAt, halvesOf}
 use Rattle.rules.specs.Events.{inEvent, starts, three}
+use Rattle.rules.specs.Borders.{Borders, knownSet, bordersOf}
 use Rattle.rules.specs.Site.{cells, inAny, isHealthy, isDisturbed, isUnknown, empty, grown}
 use Rattle.rules.specs.Refusals.{recordingCheck}
 use Rattle.rules.specs.Demands.{Good, AcceptedRecording}
@@ -78,16 +79,18 @@ module _ (s : Settings) (xs : List ℤ) (good-settings : settingsGood s ≡ true
   unfolding trackAt
   going-at k l y = landing s h n (half-past s xs) Sag k l y
 
-  pub landable : (k : ℕ) → k ≤ n → Landable s (landedAt s h n k) (lands s h n (half-past s xs) Sag k) (trackAt s h k .sag) k (cellsAt s h n k)
-  landable k l =
+  pub landable : (set : ℕ) → knownSet set ≡ true → (k : ℕ) → k ≤ n
+      → Landable s set (landedAt s h n k) (lands s h n (half-past s xs) Sag k) (trackAt s h k .sag) k (cellsAt s (bordersOf s set) h n k)
+  landable set known-set k l =
       record {
         placeable =
             record {
               good-settings = good-settings;
+              known-set = known-set;
               extreme = λ e. extreme-low s xs g ok Sag k (trackAt s h k .sag) (going-at k l e);
               began = λ e. omega (arith, going-at k l e .started);
               high = omega (arith, ok .few);
-              few = λ i. omega (arith, ok .few, cells-few s h n (half-past s xs) k i);
+              few = λ i. omega (arith, ok .few, cells-few s h n (half-past s xs) (bordersOf s set) k i);
             };
         light = follow-ready k l .0;
         unplaced-few = omega (arith, ok .few, unplaced-few s h n (half-past s xs) k);
@@ -117,9 +120,10 @@ module _ (s : Settings) (xs : List ℤ) (good-settings : settingsGood s ≡ true
   landed-after k l = landed-at-next s h n (half-past s xs) k l
 
   -- the cells after half-cycle k
-  pub cells-after : (k : ℕ) → k ≤ n → cellsBy s (lands s h n (half-past s xs) Sag k) (trackAt s h k .sag) k (known (h k)) (cellsAt s h n k) ≡ cellsAt s h n (suc k)
+  pub cells-after : (set : ℕ) → knownSet set ≡ true → (k : ℕ) → k ≤ n
+      → cellsBy s set (lands s h n (half-past s xs) Sag k) (trackAt s h k .sag) k (known (h k)) (cellsAt s (bordersOf s set) h n k) ≡ cellsAt s (bordersOf s set) h n (suc k)
   unfolding trackAt
-  cells-after k l = cells-next s h n (half-past s xs) k l
+  cells-after set known-set k l = cells-next s h n (half-past s xs) set known-set k l
 
   -- ---- the end
 
@@ -136,14 +140,15 @@ module _ (s : Settings) (xs : List ℤ) (good-settings : settingsGood s ≡ true
   unfolding surveyAt trackAt classesAt startsAt landedAt opens landed
   at-start = refl
 
-  pub cells-start : replicate cells 0 ≡ cellsAt s h n 0
+  pub cells-start : (b : Borders) → replicate cells 0 ≡ cellsAt s b h n 0
   unfolding cellsAt landed
-  cells-start = refl
+  cells-start b = refl
 
-  pub table-is : (c : Classes) (b : Starts) (d : Landed) (cs : List ℕ) (m : ℕ) → m ≡ n → c ≡ classesAt s h n → b ≡ startsAt s h n → d ≡ landedAt s h n (suc n)
-      → cs ≡ cellsAt s h n (suc n)
+  pub table-is : (set : ℕ) (c : Classes) (b : Starts) (d : Landed) (cs : List ℕ) (m : ℕ) → m ≡ n → c ≡ classesAt s h n → b ≡ startsAt s h n → d ≡ landedAt s h n (suc n)
+      → cs ≡ cellsAt s (bordersOf s set) h n (suc n)
       → _≡_ {A = Table} (record {
         settings = s;
+        set = set;
         total = m;
         healthy = c .healthy;
         disturbed = c .disturbed;
@@ -155,16 +160,16 @@ module _ (s : Settings) (xs : List ℤ) (good-settings : settingsGood s ≡ true
         swells = b .swells;
         shortfall = three (d .parts);
         parts = d .parts;
-      }) (grown (empty s) xs)
+      }) (grown (empty s set) xs)
   unfolding grown classesAt startsAt
-  table-is c b d cs m e f i j q =
-      rw (e, f, i, j, q, unplaced-all s xs, parts-all s xs, shortfall-all s xs, cells-all s xs) (simp zero-add)
+  table-is set c b d cs m e f i j q =
+      rw (e, f, i, j, q, unplaced-all s xs, parts-all s xs, shortfall-all s xs, cells-all s xs (bordersOf s set)) (simp zero-add)
 
 -- ---- a turn
 
-module _ (s : Settings) (xs : List ℤ) (good-settings : settingsGood s ≡ true) (accepted : recordingCheck s xs ≡ Accepted) (m : Thresholds) (v : Half)
+module _ (s : Settings) (xs : List ℤ) (good-settings : settingsGood s ≡ true) (accepted : recordingCheck s xs ≡ Accepted) (set : ℕ) (known-set : knownSet set ≡ true) (m : Thresholds) (v : Half)
     (p : Survey) (k : ℕ) (cs : List ℕ) (thresholds : m ≡ thresholdsOf s) (half : v ≡ halfAt s xs k) (inside : k ≤ halvesOf s xs)
-    (state : p ≡ surveyAt s (halfAt s xs) (halvesOf s xs) k) (cells-are : cs ≡ cellsAt s (halfAt s xs) (halvesOf s xs) k) where
+    (state : p ≡ surveyAt s (halfAt s xs) (halvesOf s xs) k) (cells-are : cs ≡ cellsAt s (bordersOf s set) (halfAt s xs) (halvesOf s xs) k) where
   are : Parts s xs good-settings accepted k p
   are = parts s xs good-settings accepted k p state
 
@@ -186,8 +191,8 @@ module _ (s : Settings) (xs : List ℤ) (good-settings : settingsGood s ≡ true
     ends : (p .track .sag .inside && not (is .sag .inside)) ≡ lands s (halfAt s xs) (halvesOf s xs) (half-past s xs) Sag k
     ends = rw (are .track, next) (ends-is s xs good-settings accepted k)
 
-    ask-land : Landable s (p .landed) (p .track .sag .inside && not (is .sag .inside)) (p .track .sag) k cs
-    ask-land = rw (ends, are .landed, are .track, cells-are) (landable s xs good-settings accepted k inside)
+    ask-land : Landable s set (p .landed) (p .track .sag .inside && not (is .sag .inside)) (p .track .sag) k cs
+    ask-land = rw (ends, are .landed, are .track, cells-are) (landable s xs good-settings accepted set known-set k inside)
 
     made : _≡_ {A = Survey} (record {
       track = is;
@@ -201,8 +206,8 @@ module _ (s : Settings) (xs : List ℤ) (good-settings : settingsGood s ≡ true
         (rw (are .starts-are, are .track, next) (starts-next s (halfAt s xs) k))
         (rw (ends, known-here, are .landed, are .track) (landed-after s xs good-settings accepted k inside))
 
-    cells-made : cellsBy s (p .track .sag .inside && not (is .sag .inside)) (p .track .sag) k (l .known) cs ≡ cellsAt s (halfAt s xs) (halvesOf s xs) (suc k)
-    cells-made = rw (ends, known-here, are .track, cells-are) (cells-after s xs good-settings accepted k inside)
+    cells-made : cellsBy s set (p .track .sag .inside && not (is .sag .inside)) (p .track .sag) k (l .known) cs ≡ cellsAt s (bordersOf s set) (halfAt s xs) (halvesOf s xs) (suc k)
+    cells-made = rw (ends, known-here, are .track, cells-are) (cells-after s xs good-settings accepted set known-set k inside)
 
   abbrev l : Level
   l = levelFrom (m .full) (m .sag .from) v
@@ -210,7 +215,7 @@ module _ (s : Settings) (xs : List ℤ) (good-settings : settingsGood s ≡ true
   l-is : l ≡ levelOf s (halfAt s xs k)
   l-is = level-is s m v (halfAt s xs k) l thresholds half refl
 
-  pub turnable : Turnable s m v p k cs
+  pub turnable : Turnable s set m v p k cs
   turnable =
       record {
         marked = rw thresholds (marked s (good s good-settings));
@@ -225,20 +230,20 @@ module _ (s : Settings) (xs : List ℤ) (good-settings : settingsGood s ≡ true
   unfolding surveyedBy
   turn-made = made l l-is _ refl
 
-  pub turn-cells : cellsTurned s m v p k cs ≡ cellsAt s (halfAt s xs) (halvesOf s xs) (suc k)
+  pub turn-cells : cellsTurned s set m v p k cs ≡ cellsAt s (bordersOf s set) (halfAt s xs) (halvesOf s xs) (suc k)
   unfolding cellsTurned
   turn-cells = cells-made l l-is _ refl
 
 -- ---- the last landing: half-cycle H, which does not exist
 
 module _ (s : Settings) (xs : List ℤ) (good-settings : settingsGood s ≡ true) (accepted : recordingCheck s xs ≡ Accepted)
-    (halves k : ℕ) (p : Survey) (cs : List ℕ) (count-is : halves ≡ halvesOf s xs) (done : k ≡ halvesOf s xs)
-    (state : p ≡ surveyAt s (halfAt s xs) (halvesOf s xs) k) (cells-are : cs ≡ cellsAt s (halfAt s xs) (halvesOf s xs) k) where
+    (set : ℕ) (known-set : knownSet set ≡ true) (halves k : ℕ) (p : Survey) (cs : List ℕ) (count-is : halves ≡ halvesOf s xs) (done : k ≡ halvesOf s xs)
+    (state : p ≡ surveyAt s (halfAt s xs) (halvesOf s xs) k) (cells-are : cs ≡ cellsAt s (bordersOf s set) (halfAt s xs) (halvesOf s xs) k) where
   last : p ≡ surveyAt s (halfAt s xs) (halvesOf s xs) (halvesOf s xs)
   last = state ∙ ap (surveyAt s (halfAt s xs) (halvesOf s xs)) done
 
-  last-cells : cs ≡ cellsAt s (halfAt s xs) (halvesOf s xs) (halvesOf s xs)
-  last-cells = cells-are ∙ ap (cellsAt s (halfAt s xs) (halvesOf s xs)) done
+  last-cells : cs ≡ cellsAt s (bordersOf s set) (halfAt s xs) (halvesOf s xs) (halvesOf s xs)
+  last-cells = cells-are ∙ ap (cellsAt s (bordersOf s set) (halfAt s xs) (halvesOf s xs)) done
 
   are-last : Parts s xs good-settings accepted (halvesOf s xs) p
   are-last = parts s xs good-settings accepted (halvesOf s xs) p last
@@ -249,12 +254,12 @@ module _ (s : Settings) (xs : List ℤ) (good-settings : settingsGood s ≡ true
   not-known : false ≡ known (halfAt s xs (halvesOf s xs))
   not-known = sym (rw (half-past s xs (halvesOf s xs) (omega arith)))
 
-  pub ask-last : Landable s (p .landed) (p .track .sag .inside) (p .track .sag) halves cs
+  pub ask-last : Landable s set (p .landed) (p .track .sag .inside) (p .track .sag) halves cs
   ask-last = go (p .track .sag .inside) (p .track .sag) ends-last (ap (λ (t : Track). t .sag) (are-last .track))
     where
       go : (ends : Bool) (o : Open) → ends ≡ lands s (halfAt s xs) (halvesOf s xs) (half-past s xs) Sag (halvesOf s xs)
-          → o ≡ trackAt s (halfAt s xs) (halvesOf s xs) .sag → Landable s (p .landed) ends o halves cs
-      go ends o e f = rw (e, f, are-last .landed, count-is, last-cells) (landable s xs good-settings accepted (halvesOf s xs) (omega arith))
+          → o ≡ trackAt s (halfAt s xs) (halvesOf s xs) .sag → Landable s set (p .landed) ends o halves cs
+      go ends o e f = rw (e, f, are-last .landed, count-is, last-cells) (landable s xs good-settings accepted set known-set (halvesOf s xs) (omega arith))
 
   landed-last : (d : Landed) → d ≡ landedBy (p .landed) (p .track .sag .inside) (p .track .sag) false → d ≡ landedAt s (halfAt s xs) (halvesOf s xs) (suc (halvesOf s xs))
   landed-last d e = e ∙ rw (ends-last, not-known, are-last .landed, are-last .track) (landed-after s xs good-settings accepted (halvesOf s xs) (omega arith))
@@ -264,9 +269,10 @@ module _ (s : Settings) (xs : List ℤ) (good-settings : settingsGood s ≡ true
   light-last d e = rw (landed-last d e) (last-light s xs (good s good-settings) (accepted-recording s xs accepted))
 
   pub table-made : (d : Landed) (cs′ : List ℕ) → d ≡ landedBy (p .landed) (p .track .sag .inside) (p .track .sag) false
-      → cs′ ≡ cellsBy s (p .track .sag .inside) (p .track .sag) halves false cs
+      → cs′ ≡ cellsBy s set (p .track .sag .inside) (p .track .sag) halves false cs
       → _≡_ {A = Table} (record {
         settings = s;
+        set = set;
         total = halves;
         healthy = p .classes .healthy;
         disturbed = p .classes .disturbed;
@@ -278,7 +284,7 @@ module _ (s : Settings) (xs : List ℤ) (good-settings : settingsGood s ≡ true
         swells = p .starts .swells;
         shortfall = three (d .parts);
         parts = d .parts;
-      }) (grown (empty s) xs)
+      }) (grown (empty s set) xs)
   table-made d cs′ e f =
-      table-is s xs good-settings accepted (p .classes) (p .starts) d cs′ halves count-is (are-last .classes) (are-last .starts-are) (landed-last d e)
-      (f ∙ rw (ends-last, count-is, not-known, are-last .track, last-cells) (cells-after s xs good-settings accepted (halvesOf s xs) (omega arith)))
+      table-is s xs good-settings accepted set (p .classes) (p .starts) d cs′ halves count-is (are-last .classes) (are-last .starts-are) (landed-last d e)
+      (f ∙ rw (ends-last, count-is, not-known, are-last .track, last-cells) (cells-after s xs good-settings accepted set known-set (halvesOf s xs) (omega arith)))

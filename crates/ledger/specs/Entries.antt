@@ -3,7 +3,7 @@ use Prim.Native.Nat.{ℕ, _+_, _-_, _*_, _≤_}
 use mathlib.Core.Path.{_≡_}
 use mathlib.Core.Bool.{Bool, true, false, not, _&&_, _||_, cond}
 use mathlib.Core.List.{List}
-use lib.ListN.{getD, set}
+use lib.ListN.{getD, set as store}
 use lib.Dec.{ltb}
 use Rattle.rules.specs.Bounded.{bit}
 use Rattle.rules.specs.Recorder.{settingsGood}
@@ -69,7 +69,7 @@ landedBy n ends o isKnown =
 abbrev pub cellsBy : Settings → ℕ → Bool → Open → ℕ → Bool → List ℕ → List ℕ
 cellsBy s set ends o end isKnown cs =
     let c = cellAt s (bordersOf s set) (o .extreme) (end - o .start) in
-    cond (ends && (o .seen && isKnown)) (set cs c (getD cs c 0 + 1)) cs
+    cond (ends && (o .seen && isKnown)) (store cs c (getD cs c 0 + 1)) cs
 
 -- what that asks: a cell that can be worked out, and counts that can grow
 pub record Placeable (s : Settings) (set : ℕ) (ends : Bool) (o : Open) (end : ℕ) (cs : List ℕ) : Type 0 where

@@ -1,11 +1,12 @@
--- `ledger::place` meets its contract. The cell lies within the forty, and a count can grow by one.
+-- `ledger::place` meets its contract. The cell is one of the set's, of which there are at most forty, and a count can grow by one.
 -- Assumes nothing.
-use Prim.Native.Nat.{_<_}
+use Prim.Native.Nat.{_-_, _<_}
 use mathlib.Core.Path.{_≡_}
 use mathlib.Core.Bool.{true}
 use native.Mathlib.Omega.{arith}
 use Rattle.rules.proofs.Booleans.{both}
-use Rattle.rules.proofs.Borders.{cell-high}
+use Rattle.rules.specs.Borders.{bordersOf}
+use Rattle.rules.proofs.Borders.{cell-high, set-cells}
 use Rattle.ledger.proofs.place.Statement.{statement}
 use Rattle.ledger.proofs.place.Tie as tie
 
@@ -15,7 +16,8 @@ ended c = both _ _ (c .if1 .taken) .0
 small : (c : tie.After-cell-at) → c .cell-at .result < 40
 small c =
     let s = c .before .before .before .before in
-    rw (c .cell-at .ensures) (cell-high (s .args .s) (s .args .o .extreme) _)
+    let a = s .args in
+    rw (c .cell-at .ensures) (omega (arith, cell-high (a .s) (bordersOf (a .s) (a .set)) (a .o .extreme) (a .end - a .o .start), set-cells (a .s) (a .set) (s .pre .known-set)))
 
 sub-cell-at : tie.Need-sub-cell-at
 sub-cell-at c = c .before .before .before .pre .began (ended (c .before))
@@ -24,7 +26,7 @@ cell-at-requires : tie.Need-cell-at-requires
 cell-at-requires c κs =
     let s = c .before .before .before in
     let e = ended (c .before) in
-    (s .pre .good-settings, s .pre .extreme e, omega (arith, s .pre .high, s .pre .began e))
+    (s .pre .good-settings, s .pre .known-set, s .pre .extreme e, omega (arith, s .pre .high, s .pre .began e))
 
 mul-cells : tie.Need-mul-cells
 mul-cells c = omega (arith, small c)
