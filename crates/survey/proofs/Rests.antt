@@ -11,6 +11,7 @@ use lib.ListN.{replicate}
 use Rattle.rules.specs.Bounded.{before, bit}
 use Rattle.rules.specs.Halves.{known}
 use Rattle.rules.specs.Events.{inEvent, starts}
+use Rattle.rules.specs.Borders.{Borders}
 use Rattle.rules.specs.Site.{cells, isHealthy, isDisturbed, isUnknown, sagCell}
 use Rattle.rules.specs.declared.Settings.{Settings}
 use Rattle.rules.specs.declared.Half.{Half}
@@ -108,37 +109,37 @@ module _ (s : Settings) (h : ℕ → Half) (n : ℕ) where
           over-landed (partFrom s h n 2),
         )
 
-    over-cells : cellsAt s h n k ≡ cellsAt s h n (suc k)
+    over-cells : (b : Borders) → cellsAt s b h n k ≡ cellsAt s b h n (suc k)
     unfolding cellsAt
-    over-cells =
-        cells-same _ (λ i. landed s h Sag (λ a. bit (seenBoth s h n a && eqb (sagCell s h n a) i)) (suc k))
-        (λ i. over-landed (λ a. bit (seenBoth s h n a && eqb (sagCell s h n a) i))) (replicate cells 0) 0
+    over-cells b =
+        cells-same _ (λ i. landed s h Sag (λ a. bit (seenBoth s h n a && eqb (sagCell s b h n a) i)) (suc k))
+        (λ i. over-landed (λ a. bit (seenBoth s h n a && eqb (sagCell s b h n a) i))) (replicate cells 0) 0
 
   -- ---- a stretch
 
   module _ (a : ℕ) where
     over-many : (d : ℕ) → ((k : ℕ) → a ≤ k → k < a + d → Resting s h k)
-        → (passedOver (surveyAt s h n a) d ≡ surveyAt s h n (a + d)) × (cellsAt s h n a ≡ cellsAt s h n (a + d))
-    over-many zero r = let e : a + 0 ≡ a = omega arith in rw e (over-none (surveyAt s h n a), refl)
+        → (passedOver (surveyAt s h n a) d ≡ surveyAt s h n (a + d)) × ((b : Borders) → cellsAt s b h n a ≡ cellsAt s b h n (a + d))
+    over-many zero r = let e : a + 0 ≡ a = omega arith in rw e (over-none (surveyAt s h n a), λ b. refl)
     over-many (suc d) r =
         let e : a + suc d ≡ suc (a + d) = omega arith in
         let so-far = over-many d (λ k l u. r k l (omega arith)) in
         let here = r (a + d) (omega arith) (omega arith) in
         rw e (
           sym (over-more (surveyAt s h n a) d) ∙ ap (λ (p : Survey). passedOver p 1) (so-far .0) ∙ over-one (a + d) here,
-          so-far .1 ∙ over-cells (a + d) here,
+          λ b. so-far .1 b ∙ over-cells (a + d) here b,
         )
 
-    module _ (b : ℕ) (low : a ≤ b) (rests : (k : ℕ) → a ≤ k → k < b → Resting s h k) where
-      there : a + (b - a) ≡ b
+    module _ (z : ℕ) (low : a ≤ z) (rests : (k : ℕ) → a ≤ k → k < z → Resting s h k) where
+      there : a + (z - a) ≡ z
       there = omega arith
 
-      all : (passedOver (surveyAt s h n a) (b - a) ≡ surveyAt s h n (a + (b - a))) × (cellsAt s h n a ≡ cellsAt s h n (a + (b - a)))
-      all = over-many (b - a) (λ k l u. rests k l (omega (arith, there)))
+      all : (passedOver (surveyAt s h n a) (z - a) ≡ surveyAt s h n (a + (z - a))) × ((b : Borders) → cellsAt s b h n a ≡ cellsAt s b h n (a + (z - a)))
+      all = over-many (z - a) (λ k l u. rests k l (omega (arith, there)))
 
       -- THE LAW
-      pub over-survey : passedOver (surveyAt s h n a) (b - a) ≡ surveyAt s h n b
+      pub over-survey : passedOver (surveyAt s h n a) (z - a) ≡ surveyAt s h n z
       over-survey = all .0 ∙ ap (surveyAt s h n) there
 
-      pub over-all-cells : cellsAt s h n a ≡ cellsAt s h n b
-      over-all-cells = all .1 ∙ ap (cellsAt s h n) there
+      pub over-all-cells : (b : Borders) → cellsAt s b h n a ≡ cellsAt s b h n z
+      over-all-cells b = all .1 b ∙ ap (cellsAt s b h n) there

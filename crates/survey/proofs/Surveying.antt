@@ -11,6 +11,7 @@ use Rattle.rules.specs.Bounded.{before}
 use Rattle.rules.specs.Demands.{Good}
 use Rattle.rules.specs.Halves.{begin, halfAt, halvesOf}
 use Rattle.rules.specs.Events.{inEvent}
+use Rattle.rules.specs.Borders.{bordersOf}
 use Rattle.rules.specs.Refusals.{recordingCheck}
 use Rattle.rules.specs.declared.Settings.{Settings}
 use Rattle.rules.specs.declared.Half.{Half}
@@ -31,7 +32,7 @@ use Rattle.survey.specs.Pass.{Surveying, SurveyedTo}
 use Rattle.ledger.proofs.Passes.{classes-few, parts, turnable, turn-made, turn-cells}
 use Rattle.survey.proofs.Rests.{nothing-open, over-survey, over-all-cells}
 
-module _ {s : Settings} {xs : List ℤ} {m : Thresholds} {halves : ℕ} {p : Survey} {first : Half} {from : ℕ} {cs : List ℕ} (v : Surveying s xs m halves p first from cs)
+module _ {s : Settings} {set : ℕ} {xs : List ℤ} {m : Thresholds} {halves : ℕ} {p : Survey} {first : Half} {from : ℕ} {cs : List ℕ} (v : Surveying s set xs m halves p first from cs)
     (stop : ℕ) (is : stop ≡ cond (goingOn (p .track)) from (quietTill s xs from halves)) where
   abbrev h : ℕ → Half
   h = halfAt s (asRead xs)
@@ -95,12 +96,12 @@ module _ {s : Settings} {xs : List ℤ} {m : Thresholds} {halves : ℕ} {p : Sur
     state-at : q ≡ surveyAt s h n stop
     state-at = q-is ∙ ap (λ (p : Survey). passedOver p (stop - from)) (v .state) ∙ over-survey s h n from stop low rests
 
-    cells-at : cs ≡ cellsAt s h n stop
-    cells-at = v .cells-are ∙ over-all-cells s h n from stop low rests
+    cells-at : cs ≡ cellsAt s (bordersOf s set) h n stop
+    cells-at = v .cells-are ∙ over-all-cells s h n from stop low rests (bordersOf s set)
 
     -- all is passed over
     pub surveyed-all : (step : Half) → step ≡ stepAt s xs stop → stop ≡ halves
-        → SurveyedTo s xs from (record { survey = q; step = step; k = stop; good = true }) cs
+        → SurveyedTo s set xs from (record { survey = q; step = step; k = stop; good = true }) cs
     surveyed-all step e f =
         record {
           more = omega (arith, v .more);
@@ -117,18 +118,18 @@ module _ {s : Settings} {xs : List ℤ} {m : Thresholds} {halves : ℕ} {p : Sur
       in-reading : stop ≤ n
       in-reading = omega (arith, inside, halves-read)
 
-      pub ask-turn : Turnable s m half q stop cs
-      ask-turn = turnable s (asRead xs) (v .reading .good-settings) taken m half q stop cs (v .reading .thresholds) is-half in-reading state-at cells-at
+      pub ask-turn : Turnable s set m half q stop cs
+      ask-turn = turnable s (asRead xs) (v .reading .good-settings) taken set (v .known-set) m half q stop cs (v .reading .thresholds) is-half in-reading state-at cells-at
 
-      pub surveyed-one : (survey : Survey) (ds : List ℕ) (next : Half) (isGood : Bool) → survey ≡ surveyedBy m half q stop → ds ≡ cellsTurned s m half q stop cs
+      pub surveyed-one : (survey : Survey) (ds : List ℕ) (next : Half) (isGood : Bool) → survey ≡ surveyedBy m half q stop → ds ≡ cellsTurned s set m half q stop cs
           → next ≡ stepAt s xs (stop + 1) → isGood ≡ allInRange (stepRun s xs (stop + 1))
-          → SurveyedTo s xs from (record { survey = survey; step = next; k = stop + 1; good = isGood }) ds
+          → SurveyedTo s set xs from (record { survey = survey; step = next; k = stop + 1; good = isGood }) ds
       surveyed-one survey ds next isGood e f i j =
           record {
             more = omega (arith, low);
             high = ask-step inside;
-            state = e ∙ rw add-one (turn-made s (asRead xs) (v .reading .good-settings) taken m half q stop cs (v .reading .thresholds) is-half in-reading state-at cells-at);
-            cells-are = f ∙ rw add-one (turn-cells s (asRead xs) (v .reading .good-settings) taken m half q stop cs (v .reading .thresholds) is-half in-reading state-at cells-at);
+            state = e ∙ rw add-one (turn-made s (asRead xs) (v .reading .good-settings) taken set (v .known-set) m half q stop cs (v .reading .thresholds) is-half in-reading state-at cells-at);
+            cells-are = f ∙ rw add-one (turn-cells s (asRead xs) (v .reading .good-settings) taken set (v .known-set) m half q stop cs (v .reading .thresholds) is-half in-reading state-at cells-at);
             step = i;
             below = rw add-one ranged;
             good-is = j;

@@ -9,6 +9,7 @@ use lib.IntN.{ℤ}
 use lib.ListN.{length, replicate}
 use Rattle.rules.specs.Recorder.{settingsGood, firstBad}
 use Rattle.rules.specs.Halves.{begin, halfAt, halvesOf}
+use Rattle.rules.specs.Borders.{knownSet, bordersOf}
 use Rattle.rules.specs.Site.{cells, empty, grown}
 use Rattle.rules.specs.declared.Settings.{Settings}
 use Rattle.rules.specs.declared.Half.{Half}
@@ -33,27 +34,27 @@ use Rattle.survey.specs.Pass.{Surveying, SurveyedTo, turnedAway, takenWi
 use Rattle.ledger.proofs.Passes.{at-start, cells-start, ask-last, light-last, table-made}
 
 -- before half-cycle k: the survey, the cells and the step are those of k, and all samples up to that step are in range
-pub record Reached (s : Settings) (xs : List ℤ) (k : ℕ) (p : Survey) (step : Half) (cs : List ℕ) : Type 0 where
+pub record Reached (s : Settings) (set : ℕ) (xs : List ℤ) (k : ℕ) (p : Survey) (step : Half) (cs : List ℕ) : Type 0 where
   pub state : p ≡ surveyAt s (halfAt s (asRead xs)) (halvesOf s (asRead xs)) k
-  pub cells-are : cs ≡ cellsAt s (halfAt s (asRead xs)) (halvesOf s (asRead xs)) k
+  pub cells-are : cs ≡ cellsAt s (bordersOf s set) (halfAt s (asRead xs)) (halvesOf s (asRead xs)) k
   pub step-is : step ≡ stepAt s xs k
   pub in-range : RangedBelow xs (3 * begin s (suc k))
 
-module _ (s : Settings) (xs : List ℤ) (good-settings : settingsGood s ≡ true) (shaped : shapeCheck s xs ≡ Accepted) where
+module _ (s : Settings) (set : ℕ) (xs : List ℤ) (good-settings : settingsGood s ≡ true) (known-set : knownSet set ≡ true) (shaped : shapeCheck s xs ≡ Accepted) where
   -- ---- the start
 
   pub start-reached : (p : Survey) (step : Half) (b : Bool) → p ≡ startSurvey → step ≡ stepAt s xs 0 → b ≡ allInRange (stepRun s xs 0) → b ≡ true
-      → Reached s xs 0 p step (replicate cells 0)
+      → Reached s set xs 0 p step (replicate cells 0)
   start-reached p step b e f i t =
       record {
         state = e ∙ at-start s (asRead xs) good-settings (read-taken s xs shaped);
-        cells-are = cells-start s (asRead xs) good-settings (read-taken s xs shaped);
+        cells-are = cells-start s (asRead xs) good-settings (read-taken s xs shaped) (bordersOf s set);
         step-is = f;
         in-range = ranged-next s xs (good s good-settings) shaped 0 (omega arith) (λ j l. absurd (omega arith)) (sym i ∙ t);
       }
 
   -- where no bad sample was met
-  pub on-reached : (from : ℕ) (r : Surveyed) (cs : List ℕ) → SurveyedTo s xs from r cs → r .good ≡ true → Reached s xs (r .k) (r .survey) (r .step) cs
+  pub on-reached : (from : ℕ) (r : Surveyed) (cs : List ℕ) → SurveyedTo s set xs from r cs → r .good ≡ true → Reached s set xs (r .k) (r .survey) (r .step) cs
   on-reached from r cs t e =
       record {
         state = t .state;
@@ -65,7 +66,7 @@ module _ (s : Settings) (xs : List ℤ) (good-settings : settingsGood s ≡ true
   -- ---- a bad sample
 
   -- where one was
-  pub on-bad : (from : ℕ) (r : Surveyed) (cs : List ℕ) → SurveyedTo s xs from r cs → r .good ≡ false → allInRange xs ≡ false
+  pub on-bad : (from : ℕ) (r : Surveyed) (cs : List ℕ) → SurveyedTo s set xs from r cs → r .good ≡ false → allInRange xs ≡ false
   on-bad from r cs t e = step-bad s xs (good s good-settings) shaped (r .k) (t .high) (sym (t .good-is) ∙ e)
 
   -- one in step 0
@@ -76,17 +77,17 @@ module _ (s : Settings) (xs : List ℤ) (good-settings : settingsGood s ≡ true
   ask-first = (omega arith, λ j l. absurd (omega arith))
 
   -- where it is looked for
-  pub ask-bad : {from : ℕ} {r : Surveyed} {cs : List ℕ} → SurveyedTo s xs from r cs → (3 * begin s (r .k) ≤ length xs) × RangedBelow xs (3 * begin s (r .k))
+  pub ask-bad : {from : ℕ} {r : Surveyed} {cs : List ℕ} → SurveyedTo s set xs from r cs → (3 * begin s (r .k) ≤ length xs) × RangedBelow xs (3 * begin s (r .k))
   ask-bad {r = r} t = (omega (arith, step-fits s xs (good s good-settings) shaped (r .k) (t .high)), t .below)
 
-  pub turned : allInRange xs ≡ false → (q : Refusal) (r : Handed) → q ≡ Sample (firstBad xs) → r ≡ turnedAway s q → r ≡ tabled s xs
+  pub turned : allInRange xs ≡ false → (q : Refusal) (r : Handed) → q ≡ Sample (firstBad xs) → r ≡ turnedAway s set q → r ≡ tabled s set xs
   unfolding tabled
   turned e q r f i = i ∙ rw (f, by-range s xs shaped, range-bad xs e)
 
   -- ---- surveying on
 
-  pub ask-next : {m : Thresholds} {halves : ℕ} {p : Survey} {step : Half} {cs : List ℕ} (k : ℕ) → m ≡ thresholdsOf s → halves ≡ halvesOf s xs → k < halves → Reached s xs k p step cs
-      → Surveying s xs m halves p step k cs
+  pub ask-next : {m : Thresholds} {halves : ℕ} {p : Survey} {step : Half} {cs : List ℕ} (k : ℕ) → m ≡ thresholdsOf s → halves ≡ halvesOf s xs → k < halves → Reached s set xs k p step cs
+      → Surveying s set xs m halves p step k cs
   ask-next k e f l r =
       record {
         reading =
@@ -98,6 +99,7 @@ module _ (s : Settings) (xs : List ℤ) (good-settings : settingsGood s ≡ true
               high = omega arith;
               step = r .step-is;
             };
+        known-set = known-set;
         halves-are = f;
         more = l;
         state = r .state;
@@ -107,7 +109,7 @@ module _ (s : Settings) (xs : List ℤ) (good-settings : settingsGood s ≡ true
 
   -- ---- the end
 
-  module _ (halves k : ℕ) (p : Survey) (step : Half) (cs : List ℕ) (count-is : halves ≡ halvesOf s xs) (done : k ≡ halves) (r : Reached s xs k p step cs) where
+  module _ (halves k : ℕ) (p : Survey) (step : Half) (cs : List ℕ) (count-is : halves ≡ halvesOf s xs) (done : k ≡ halves) (r : Reached s set xs k p step cs) where
     counted : halves ≡ halvesOf s (asRead xs)
     counted = count-is ∙ sym (read-halves s xs)
 
@@ -116,17 +118,17 @@ module _ (s : Settings) (xs : List ℤ) (good-settings : settingsGood s ≡ true
         let e : k ≡ halvesOf s xs = done ∙ count-is in
         ranged-all xs (3 * begin s (suc (halvesOf s xs))) (steps-all s xs (good s good-settings) shaped) (rw e at (r .in-range))
 
-    pub ask-end : Landable s (p .landed) (p .track .sag .inside) (p .track .sag) halves cs
-    ask-end = ask-last s (asRead xs) good-settings (read-taken s xs shaped) halves k p cs counted (done ∙ counted) (r .state) (r .cells-are)
+    pub ask-end : Landable s set (p .landed) (p .track .sag .inside) (p .track .sag) halves cs
+    ask-end = ask-last s (asRead xs) good-settings (read-taken s xs shaped) set known-set halves k p cs counted (done ∙ counted) (r .state) (r .cells-are)
 
-    taken : (t : Table) → t ≡ grown (empty s) (asRead xs) → _≡_ {A = Handed} (record { answer = Accepted; table = t }) (tabled s xs)
+    taken : (t : Table) → t ≡ grown (empty s set) (asRead xs) → _≡_ {A = Handed} (record { answer = Accepted; table = t }) (tabled s set xs)
     unfolding tabled
     taken t e = rw (e, read-itself xs whole, by-range s xs shaped, range-good xs whole)
 
     pub ask-taken : (d : Landed) → d ≡ landedBy (p .landed) (p .track .sag .inside) (p .track .sag) false → Light (d .parts)
-    ask-taken d e = light-last s (asRead xs) good-settings (read-taken s xs shaped) halves k p cs counted (done ∙ counted) (r .state) (r .cells-are) d e
+    ask-taken d e = light-last s (asRead xs) good-settings (read-taken s xs shaped) set known-set halves k p cs counted (done ∙ counted) (r .state) (r .cells-are) d e
 
     pub end-made : (d : Landed) (cs′ : List ℕ) → d ≡ landedBy (p .landed) (p .track .sag .inside) (p .track .sag) false
-        → cs′ ≡ cellsBy s (p .track .sag .inside) (p .track .sag) halves false cs → takenWith s halves p d cs′ ≡ tabled s xs
+        → cs′ ≡ cellsBy s set (p .track .sag .inside) (p .track .sag) halves false cs → takenWith s set halves p d cs′ ≡ tabled s set xs
     end-made d cs′ e f =
-        taken _ (table-made s (asRead xs) good-settings (read-taken s xs shaped) halves k p cs counted (done ∙ counted) (r .state) (r .cells-are) d cs′ e f)
+        taken _ (table-made s (asRead xs) good-settings (read-taken s xs shaped) set known-set halves k p cs counted (done ∙ counted) (r .state) (r .cells-are) d cs′ e f)

@@ -163,8 +163,8 @@ fn taken(s: Settings, set: u64, halves: u64, p: Survey, landed: Landed, cells: [
     }
 }
 
-// The table of one recording of good length by a set of borders, or refusal 6, which is told as soon as a bad sample is met. Half-cycle H, which does not
-// exist, ends a sag that is still going on.
+// The table of one recording of good length by a set of borders, or refusal 6, which is told as soon as a bad sample is met.
+// Half-cycle H, which does not exist, ends a sag that is still going on.
 pub fn table_of(s: Settings, set: u64, samples: &[i32]) -> Site
     requires { ⌜ (settingsGood s ≡ true) × (knownSet set ≡ true) × (shapeCheck s (now samples) ≡ Accepted) ⌝ }
     ensures { λ r. ⌜ r ≡ tabled s set (now (samples .entry)) ⌝ }

@@ -58,8 +58,8 @@ survey-turn-requires c κs =
     let calm = over .before in
     ask-turn (calm .before .pre) _ (calm .calm-from .ensures .k-is) _ (over .pass-over .ensures) (inside (joined .before)) _ (half joined)
 
-add-t14 : tie.Need-add-t14
-add-t14 c = omega (arith, inside (c .before .before .before))
+add-t15 : tie.Need-add-t15
+add-t15 c = omega (arith, inside (c .before .before .before))
 
 add-step-in-range : tie.Need-add-step-in-range
 add-step-in-range c = omega (arith, inside (c .before .before .before))
@@ -91,7 +91,7 @@ survey-next-spec =
     returns
     joined-requires
     survey-turn-requires
-    add-t14
+    add-t15
     add-step-in-range
     step-in-range-requires
     returns-2)

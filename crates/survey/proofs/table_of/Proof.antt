@@ -12,10 +12,10 @@ use Rattle.survey.proofs.table_of.Statement.{statement}
 use Rattle.survey.proofs.table_of.Tie as tie
 
 abbrev Inv-loop : tie.InvT-loop
-Inv-loop s samples halves m cells₀ p₀ step₀ k₀ cells p step k = (k ≤ halves) × Reached s samples k p step cells
+Inv-loop s set samples halves m cells₀ p₀ step₀ k₀ cells p step k = (k ≤ halves) × Reached s set samples k p step cells
 
 abbrev μ-loop : tie.MeasureT-loop
-μ-loop s samples halves m cells₀ p₀ step₀ k₀ cells p step k = halves - k
+μ-loop s set samples halves m cells₀ p₀ step₀ k₀ cells p step k = halves - k
 
 -- where the loop stands, and where all of it began
 abbrev L : Type 0
@@ -47,13 +47,13 @@ start-survey-requires : tie.Need-start-survey-requires Inv-loop μ-loop
 start-survey-requires c κs = search needs
 
 step-at-requires : tie.Need-step-at-requires Inv-loop μ-loop
-step-at-requires c κs = let v = c .before .before .before .pre in (v .0, v .1, omega arith)
+step-at-requires c κs = let v = c .before .before .before .pre in (v .0, v .2, omega arith)
 
 step-in-range-requires : tie.Need-step-in-range-requires Inv-loop μ-loop
-step-in-range-requires c κs = let v = c .before .before .before .before .pre in (v .0, v .1, omega arith, c .step-at .ensures)
+step-in-range-requires c κs = let v = c .before .before .before .before .pre in (v .0, v .2, omega arith, c .step-at .ensures)
 
 bad-sample-requires : tie.Need-bad-sample-requires Inv-loop μ-loop
-bad-sample-requires c κs = let v = c .before .before .before .before .before .before .pre in ask-first _ _ (v .0) (v .1)
+bad-sample-requires c κs = let v = c .before .before .before .before .before .before .pre in ask-first _ _ _ (v .0) (v .1) (v .2)
 
 turned-away-requires : tie.Need-turned-away-requires Inv-loop μ-loop
 turned-away-requires c κs = search needs
@@ -62,25 +62,25 @@ returns : tie.Need-returns Inv-loop μ-loop
 returns c =
     let i = c .before .before .before in
     let v = i .before .before .before .before .before .pre in
-    turned _ _ (v .0) (v .1) (first-bad-step _ _ (v .0) (v .1) _ (i .step-in-range .ensures) (not-true _ (c .before .before .if1 .taken))) _ _ (c .before .bad-sample .ensures) (c .turned-away .ensures)
+    turned _ _ _ (v .0) (v .1) (v .2) (first-bad-step _ _ _ (v .0) (v .1) (v .2) _ (i .step-in-range .ensures) (not-true _ (c .before .before .if1 .taken))) _ _ (c .before .bad-sample .ensures) (c .turned-away .ensures)
 
 loop-holds : tie.Need-loop-holds Inv-loop μ-loop
 loop-holds c =
     let i = c .before in
     let v = i .before .before .before .before .before .pre in
-    (omega arith, start-reached _ _ (v .0) (v .1) _ _ _ (i .before .before .start-survey .ensures) (i .before .step-at .ensures) (i .step-in-range .ensures) (not-false _ (c .if1 .left)))
+    (omega arith, start-reached _ _ _ (v .0) (v .1) (v .2) _ _ _ (i .before .before .start-survey .ensures) (i .before .step-at .ensures) (i .step-in-range .ensures) (not-false _ (c .if1 .left)))
 
 survey-next-requires : tie.Need-survey-next-requires Inv-loop μ-loop
 survey-next-requires c κs =
     let t = c .before in
     let l = t .before in
     let v = start l .pre in
-    ask-next _ _ (v .0) (v .1) _ (l .before .before .before .before .before .thresholds-of .ensures) (counted l) (t .loop-test .taken) (l .loop .inv .1)
+    ask-next _ _ _ (v .0) (v .1) (v .2) _ (l .before .before .before .before .before .thresholds-of .ensures) (counted l) (t .loop-test .taken) (l .loop .inv .1)
 
 bad-sample-requires-2 : tie.Need-bad-sample-requires-2 Inv-loop μ-loop
 bad-sample-requires-2 c κs =
     let r = c .before .before in
-    let v = start (r .before .before .before) .pre in ask-bad _ _ (v .0) (v .1) (r .survey-next .ensures)
+    let v = start (r .before .before .before) .pre in ask-bad _ _ _ (v .0) (v .1) (v .2) (r .survey-next .ensures)
 
 turned-away-requires-2 : tie.Need-turned-away-requires-2 Inv-loop μ-loop
 turned-away-requires-2 c κs = search needs
@@ -89,7 +89,7 @@ returns-2 : tie.Need-returns-2 Inv-loop μ-loop
 returns-2 c =
     let r = c .before .before .before .before in
     let v = start (r .before .before .before) .pre in
-    turned _ _ (v .0) (v .1) (on-bad _ _ (v .0) (v .1) _ _ _ (r .survey-next .ensures) (not-true _ (c .before .before .if2 .taken))) _ _ (c .before .bad-sample2 .ensures) (c .turned-away2 .ensures)
+    turned _ _ _ (v .0) (v .1) (v .2) (on-bad _ _ _ (v .0) (v .1) (v .2) _ _ _ (r .survey-next .ensures) (not-true _ (c .before .before .if2 .taken))) _ _ (c .before .bad-sample2 .ensures) (c .turned-away2 .ensures)
 
 loop-less : tie.Need-loop-less Inv-loop μ-loop
 loop-less c =
@@ -101,21 +101,21 @@ loop-again c =
     let r = c .before .before .before in
     let e = r .survey-next .ensures in
     let v = start (r .before .before .before) .pre in
-    (omega (arith, e .high, counted (r .before .before .before)), on-reached _ _ (v .0) (v .1) _ _ _ e (not-false _ (c .before .if2 .left)))
+    (omega (arith, e .high, counted (r .before .before .before)), on-reached _ _ _ (v .0) (v .1) (v .2) _ _ _ e (not-false _ (c .before .if2 .left)))
 
 land-requires : tie.Need-land-requires Inv-loop μ-loop
 land-requires c κs =
     let e = c .before .before .before in
     let t = e .before in
     let v = start t .pre in
-    ask-end _ _ (v .0) (v .1) _ _ _ _ _ (counted t) (ended e) (t .loop .inv .1)
+    ask-end _ _ _ (v .0) (v .1) (v .2) _ _ _ _ _ (counted t) (ended e) (t .loop .inv .1)
 
 taken-requires : tie.Need-taken-requires Inv-loop μ-loop
 taken-requires c κs =
     let e = c .before .before .before .before in
     let t = e .before in
     let v = start t .pre in
-    ask-taken _ _ (v .0) (v .1) _ _ _ _ _ (counted t) (ended e) (t .loop .inv .1) _ (c .land .ensures .0)
+    ask-taken _ _ _ (v .0) (v .1) (v .2) _ _ _ _ _ (counted t) (ended e) (t .loop .inv .1) _ (c .land .ensures .0)
 
 returns-3 : tie.Need-returns-3 Inv-loop μ-loop
 returns-3 c =
@@ -123,7 +123,7 @@ returns-3 c =
     let t = e .before in
     let v = start t .pre in
     let l = c .before .land .ensures in
-    c .taken .ensures ∙ end-made _ _ (v .0) (v .1) _ _ _ _ _ (counted t) (ended e) (t .loop .inv .1) _ _ (l .0) (l .1)
+    c .taken .ensures ∙ end-made _ _ _ (v .0) (v .1) (v .2) _ _ _ _ _ (counted t) (ended e) (t .loop .inv .1) _ _ (l .0) (l .1)
 
 pub table-of-spec : {M : Type 1} → statement M
 table-of-spec =
