@@ -1,5 +1,6 @@
 // Lists the known answers K1 to K12 and three recordings that are turned away, through the public call, and writes a line for
-// each: how many events there are, and of each its eleven numbers, its reason and its cell; or the refusal and its place.
+// each: how many events there are, and of each its eleven numbers, its reason, and its cells by set 0 and by set 1; or the refusal and
+// its place.
 use cases::blocks;
 use cases::k9;
 use cases::settings;
@@ -10,7 +11,7 @@ use rules::Sums;
 ghost use Prim.Native.Nat.{_+_, _*_, _≤_};
 ghost use lib.ListN.{length};
 
-// The event whose words start at `at`, its reason and its cell.
+// The event whose words start at `at`, its reason, which is the same under both sets of borders, and its cell by each.
 fn write_event(words: &[u64], at: usize)
     requires { ⌜ at + 11 ≤ length (now words) ⌝ }
 {
@@ -43,9 +44,10 @@ fn write_event(words: &[u64], at: usize)
     print::number(parts.b);
     print::number(parts.c);
     print::text(b" reason");
-    print::number(score::reason(settings(), e));
-    print::text(b" cell");
-    print::number(score::cell(settings(), e));
+    print::number(score::reason(settings(), 0, e));
+    print::text(b" cells");
+    print::number(score::cell(settings(), 0, e));
+    print::number(score::cell(settings(), 1, e));
 }
 
 fn write_events(words: &[u64], n: u64)

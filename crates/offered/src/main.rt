@@ -1,5 +1,5 @@
-// Offers a fresh table several recordings, refused ones among them, through the public calls, and writes a line for each answer
-// and one for the table. Then the table of zeros that a refused making hands back, which takes nothing.
+// Offers a fresh table of each set of borders several recordings, refused ones among them, through the public calls, and writes a line
+// for each answer and one for the table. Then the table of zeros that a refused making hands back, which takes nothing.
 use cases::blocks;
 use cases::k9;
 use cases::settings;
@@ -45,6 +45,9 @@ fn write_table(name: &[u8], t: Table) {
     let cells = t.cells;
     let parts = t.parts;
     print::text(name);
+    print::text(b" set");
+    print::number(t.set);
+    print::text(b" half-cycles");
     print::number(t.total);
     print::number(t.healthy);
     print::number(t.disturbed);
@@ -89,9 +92,9 @@ fn offer_dip(name: &[u8], t: Table, v: i32) -> Table {
     offer_blocks(name, t, [1000, 1000, v, v, 1000, 1000, 0, 0], 72)
 }
 
-// A fresh table that is offered several recordings, refused ones among them.
-fn write_site() {
-    let fresh = site::fresh(settings());
+// A fresh table of a set that is offered several recordings, refused ones among them.
+fn write_site(set: u64) {
+    let fresh = site::fresh(settings(), set);
     let t0 = fresh.table;
     let t1 = offer_dip(b"site, K2:", t0, 500);
     let t2 = offer_blocks(b"site, no samples:", t1, [1000; 8], 0);
@@ -104,14 +107,14 @@ fn write_site() {
     write_table(b"site:", t8);
 }
 
-// Settings that are refused give a table of zeros, and that takes nothing.
-fn write_zeros() {
+// A making that is refused gives a table of zeros, and that takes nothing.
+fn write_zeros(name: &[u8], f: u64, set: u64) {
     let mut s = settings();
-    s.f = 55;
-    let fresh = site::fresh(s);
+    s.f = f;
+    let fresh = site::fresh(s, set);
     let answer = fresh.answer;
     let zeros = fresh.table;
-    print::text(b"55 Hz:");
+    print::text(name);
     write_taken(answer);
     print::text(b"\n");
     let after = offer_dip(b"zeros, K2:", zeros, 500);
@@ -119,6 +122,8 @@ fn write_zeros() {
 }
 
 fn main() {
-    write_site();
-    write_zeros();
+    write_site(0);
+    write_site(1);
+    write_zeros(b"55 Hz and set 2:", 55, 2);
+    write_zeros(b"set 2:", 50, 2);
 }
