@@ -62,12 +62,13 @@ pub enum Answer {
 }
 
 type Lister = fn(&Settings, &[i32], &mut [u64]) -> Result<u64, Refused>;
+type Maker = fn(&Settings, u64) -> (Result<(), Refused>, Table);
 
 /// A program that can be asked.
 pub struct Program {
     pub list: Lister,
     pub add: fn(&mut Table, &[i32]) -> Result<(), Refused>,
-    pub fresh: fn(&Settings, u64) -> (Result<(), Refused>, Table),
+    pub fresh: Maker,
     pub score: fn(&Settings, u64, &Event) -> Result<Score, u64>,
     pub reason: fn(&Settings, u64, &Event) -> u64,
     pub cell: fn(&Settings, u64, &Event) -> u64,
