@@ -5,8 +5,9 @@ use crate::{Refused, Settings};
 /// What a column ends before. A duration on it goes to the next column.
 #[derive(Clone, Copy, Debug)]
 pub enum Border {
+    /// So many cycles, of two half-cycles each.
     Cycles(u64),
-    /// Tenths of a second.
+    /// So many tenths of a second. It has 2 f half-cycles, so that h of them are below t tenths exactly if 5 h < t f.
     Tenths(u64),
 }
 
@@ -21,7 +22,7 @@ pub struct Borders {
 }
 
 /// Set 0 is source 001's Table 3, by UNIPEDE; set 1 its Table 4, by IEC 61000-4-11.
-pub const SETS: [Borders; 2] = [
+pub static SETS: [Borders; 2] = [
     Borders {
         rows: &[10, 40, 70, 85],
         columns: &[Cycles(1), Tenths(1), Tenths(5), Tenths(10), Tenths(30), Tenths(200), Tenths(600)],
@@ -62,7 +63,7 @@ pub fn check(set: u64) -> Result<(), Refused> {
 }
 
 impl Border {
-    /// The first h that is on the border or beyond it, at frequency f. Two half-cycles are a cycle, and 2 f of them a second.
+    /// The first h that is on the border or beyond it, at frequency f.
     pub fn first(self, f: u64) -> u64 {
         match self {
             Cycles(cycles) => 2 * cycles,

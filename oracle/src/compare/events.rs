@@ -52,7 +52,9 @@ fn placed(random: &mut Random, s: &Settings, set: u64) -> Event {
     let (level, beside) = in_a_row(random, borders.rows);
     let extreme = sum_at(s, level).saturating_add_signed(beside);
     let h = in_a_column(random, s, borders.columns);
-    [1, 7, 7 + h, 3, extreme, retained(s, extreme), 0, random.below(7), 0, 0, 0]
+    let shortfall = random.below(3 * reference(s) as u64 * h + 1);
+    let [a, b, c] = parts::made_up(random, shortfall);
+    [1, 7, 7 + h, 3, extreme, retained(s, extreme), shortfall, random.below(7), a, b, c]
 }
 
 /// An event with each number on a border, beside it, or within its bounds.
@@ -86,13 +88,14 @@ fn bordering(random: &mut Random, s: &Settings) -> Event {
     [kind, start, end, seen, extreme, retained, shortfall, class, a, b, c]
 }
 
-/// A number of half-cycles where the curve steps, a column of some set begins, or anything.
+/// A number of half-cycles where the curve steps, a column of some set begins, or anything; none and one too many, too.
 fn duration(random: &mut Random, s: &Settings) -> u64 {
-    let steps = [&beside_the_steps(s.f)[..], &all_columns(s.f), &[1, 100_000]].concat();
-    match random.below(4) {
-        0 => random.between(0, 60),
-        1 => random.between(0, 100_000),
-        _ => random.pick(&steps) + random.below(3) - 1,
+    match random.below(8) {
+        0 | 1 => random.between(0, 60),
+        2 => random.between(0, 100_000),
+        3 => random.pick(&[0, 1, 100_000, 100_001]),
+        4 | 5 => random.pick(&beside_the_steps(s.f)),
+        _ => random.pick(&all_columns(s.f)) + random.below(3) - 1,
     }
 }
 
