@@ -1,9 +1,11 @@
 //! What was answered about a recording, by name. Half-cycles are numbered as in the whole recording, whatever it was cut
 //! into, and nothing here knows how it is shown.
+pub mod grid;
 pub mod level;
 pub mod measured;
 pub mod table;
 
+use grid::Grid;
 use host::{Score, Table};
 use table::Counts;
 
@@ -21,6 +23,8 @@ pub struct Found {
     pub by_channel: [u64; 3],
     pub reason: u64,
     pub cell: u64,
+    /// The grid that the cell is one of.
+    pub grid: &'static Grid,
     pub score: Option<Score>,
     /// The single half-cycles that tell how it came about, where they were asked for.
     pub close: Option<Close>,

@@ -1,12 +1,13 @@
 //! The severity curve, as the library has it.
+use crate::answered::grid;
 use host::{Settings, WORDS};
 
 /// The curve's value for a sag that lasts h half-cycles: the library scores one without any voltage left, whose severity
-/// is 1000 / (1000 - c).
+/// is 1000 / (1000 - c), by whatever set of borders.
 pub fn value(s: &Settings, h: u64) -> Option<u64> {
     let mut words = [0; WORDS];
     [words[0], words[2], words[3]] = [1, h, 3];
-    host::score(s, &words).ok().map(|score| (1000.0 - 1000.0 / score.severity).round() as u64)
+    host::score(s, grid::FIRST, &words).ok().map(|score| (1000.0 - 1000.0 / score.severity).round() as u64)
 }
 
 /// The curve's steps: the first duration in half-cycles, and the value from there on.

@@ -179,7 +179,7 @@ impl<'a> Whole<'a> {
 #[cfg(test)]
 mod tests {
     use super::{Cutting, Stretch, Whole};
-    use crate::answered::table::counts;
+    use crate::answered::{grid, table::counts};
     use host::{Event, Settings};
     use oracle::{plain, random::Random, recording};
 
@@ -261,7 +261,7 @@ mod tests {
             let whole = Whole { s: &s, samples: &samples, block: 12, most };
             let Ok(cutting) = whole.cut_up() else { panic!("{case}: refused") };
             let (walked, told) = (plain::walk(&s, &samples), moved_back(&cutting));
-            let (_, mut table) = host::fresh(&s);
+            let (_, mut table) = host::fresh(&s, grid::FIRST);
             cutting.stretches.iter().for_each(|part| host::add(&mut table, part.samples).unwrap());
             let c = counts(&table);
             assert_eq!((c.total, c.unknown), (whole.halves() as u64, walked.unknown), "{case}");

@@ -8,7 +8,7 @@ pub mod measure;
 mod probe;
 
 use crate::{
-    answered::{table, Answer, Close, Found, Part, Picture},
+    answered::{grid, table, Answer, Close, Found, Part, Picture},
     failure::{Failure, Refusal},
     reading::recording::Recording,
 };
@@ -28,8 +28,8 @@ pub struct Wish {
     pub picture: Option<usize>,
 }
 
-/// All about a recording.
-pub fn about(s: &Settings, recording: &Recording, wish: Wish) -> Result<Answer, Failure> {
+/// All about a recording; its cells are those of the set of borders.
+pub fn about(s: &Settings, set: u64, recording: &Recording, wish: Wish) -> Result<Answer, Failure> {
     part_by_part(s, recording, wish.cut, |number, stretch| {
         let events = match (&stretch.events, wish.room) {
             (Some(events), None) => events.clone(),
@@ -37,8 +37,8 @@ pub fn about(s: &Settings, recording: &Recording, wish: Wish) -> Result<Answer, 
         };
         let samples = &recording.samples;
         let look = |event| wish.close.then(|| close::look(s, samples, stretch, event));
-        let events = events.iter().map(|event| found(s, stretch.first_half as u64, event, look(event))).collect();
-        let own = alone(s, stretch.samples)?;
+        let events = events.iter().map(|event| found(s, set, stretch.first_half as u64, event, look(event))).collect();
+        let own = alone(s, set, stretch.samples)?;
         let picture = wish.picture.map(|columns| picture(s, stretch, table::counts(&own).total, columns));
         Ok(Part { number, first_half: stretch.first_half as u64, events, own, picture })
     })
@@ -93,11 +93,12 @@ fn part_by_part(
 }
 
 /// An event's numbers by name, with what the library says of them, moved to where it lies in the whole recording.
-fn found(s: &Settings, first: u64, event: &Event, close: Option<Close>) -> Found {
+fn found(s: &Settings, set: u64, first: u64, event: &Event, close: Option<Close>) -> Found {
     let [kind, start, end, seen, extreme, retained, shortfall, class, by_channel @ ..] = *event;
-    let (reason, cell, score) = (host::reason(s, event), host::cell(s, event), host::score(s, event).ok());
+    let (reason, score) = (host::reason(s, set, event), host::score(s, set, event).ok());
+    let (cell, grid) = (host::cell(s, set, event), grid::of(set));
     let (start, end) = (first + start, first + end);
-    Found { kind, start, end, seen, extreme, retained, shortfall, class, by_channel, reason, cell, score, close }
+    Found { kind, start, end, seen, extreme, retained, shortfall, class, by_channel, reason, cell, grid, score, close }
 }
 
 fn picture(s: &Settings, stretch: &Stretch, halves: u64, columns: usize) -> Picture {
@@ -108,8 +109,8 @@ fn picture(s: &Settings, stretch: &Stretch, halves: u64, columns: usize) -> Pict
 }
 
 /// The table of these samples alone.
-fn alone(s: &Settings, samples: &[i32]) -> Result<Table, Refused> {
-    let (made, mut table) = host::fresh(s);
+fn alone(s: &Settings, set: u64, samples: &[i32]) -> Result<Table, Refused> {
+    let (made, mut table) = host::fresh(s, set);
     made?;
     host::add(&mut table, samples)?;
     Ok(table)

@@ -1,13 +1,13 @@
 //! Small questions for the library about single half-cycles and made-up events, so that the marks of the page and the
 //! words of `explain` are its answers too.
 use super::halves::window;
-use crate::answered::table;
+use crate::answered::{grid, table};
 use host::{Event, Settings, WORDS};
 
 /// The unknown stretches of a recording, each from its first half-cycle up to but not with its end: the library adds each
-/// half-cycle alone to a fresh table and says whether it is unknown.
+/// half-cycle alone to a fresh table and says whether it is unknown. No cell is asked for, so any set of borders will do.
 pub fn unknown(s: &Settings, samples: &[i32], halves: u64) -> Vec<(u64, u64)> {
-    let (_, fresh) = host::fresh(s);
+    let (_, fresh) = host::fresh(s, grid::FIRST);
     let known = |k: &u64| {
         let mut table = fresh;
         let added = window(s, samples, *k).is_some_and(|window| host::add(&mut table, window).is_ok());
