@@ -1,6 +1,10 @@
 //! Answers as CSV, for spreadsheets.
 use super::{explain, words};
-use crate::answered::{table, Answer, Found, Part};
+use crate::answered::{
+    grid::Grid,
+    table::{self, BORDERS},
+    Answer, Found, Part,
+};
 use host::{Settings, Table};
 
 /// A line of fields, each quoted where it must be.
@@ -42,22 +46,24 @@ const EVENT: [&str; 20] = [
 
 /// The events of recordings, one to a line, each with its recording's half-cycles and with the ends that a cut has taken (1
 /// for the start plus 2 for the end); severity and energy are empty where there is no score. A recording without events has one line
-/// too, of kind 0: what nobody saw must not vanish. `told` adds the sentences of `explain`.
-pub fn events(s: &Settings, answers: &[Answer], told: bool) -> String {
+/// too, of kind 0: what nobody saw must not vanish. `told` adds the sentences of `explain`. Each line ends with the set of borders
+/// that cells are by.
+pub fn events(s: &Settings, grid: &Grid, answers: &[Answer], told: bool) -> String {
     let mut head = [&RECORDING[..], &EVENT].concat();
     if told {
         head.extend(explain::LABELS);
     }
     // Behind all else, so that no column that was there before has moved.
     head.extend(words::BY_CHANNEL);
+    head.push(BORDERS);
     let mut out = line(&head.iter().map(|name| name.to_string()).collect::<Vec<_>>());
     for answer in answers {
         let c = answer.counts();
         let mut recording = vec![answer.name.clone()];
         recording.extend([c.total, c.healthy, c.disturbed, c.unknown].map(|count| count.to_string()));
         let mut row = |mut fields: Vec<String>| {
-            fields.resize(head.len() - recording.len(), String::new());
-            out += &line(&[&recording[..], &fields].concat());
+            fields.resize(head.len() - recording.len() - 1, String::new());
+            out += &line(&[&recording[..], &fields, &[grid.word.to_string()]].concat());
         };
         for (part, number, event) in answer.events() {
             let mut fields = fields(s, part, number, event, answer.lost(event));
@@ -87,8 +93,9 @@ fn fields(s: &Settings, part: &Part, number: usize, event: &Found, lost: u64) ->
     fields
 }
 
-/// A table's numbers by name.
+/// A table's numbers by name, and its set of borders by its word.
 pub fn table(table: &Table) -> String {
-    let rows = table::names().into_iter().zip(table).map(|(name, word)| line(&[name, word.to_string()]));
-    "name,value\n".to_string() + &rows.collect::<String>()
+    let rows = table::named(table).map(|(name, number)| line(&[name, number.to_string()]));
+    let set = line(&[BORDERS, table::grid(table).word].map(String::from));
+    "name,value\n".to_string() + &rows.collect::<String>() + &set
 }

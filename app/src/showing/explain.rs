@@ -180,7 +180,7 @@ fn score(s: &Settings, event: &Found, close: &Close, taken: Taken) -> String {
     let (Some(score), Some(curve)) = (event.score, close.curve) else { return no_score(s, event, taken) };
     format!(
         "{}severity (1000 - {}) / (1000 - {curve}) = {:.3}: retained {}, and {curve} is the curve's value for {}; energy {:.3} s: \
-         shortfall {} / ({} x {} x {} x 2 x {}), rounded down to milliseconds; cell {}: {}, {}.",
+         shortfall {} / ({} x {} x {} x 2 x {}), rounded down to milliseconds; cell {} ({}): {}, {}.",
         taken.whose(),
         event.retained,
         score.severity,
@@ -193,24 +193,26 @@ fn score(s: &Settings, event: &Found, close: &Close, taken: Taken) -> String {
         s.r,
         s.f,
         event.cell,
+        event.grid.title,
         row(s, event),
-        words::column(event.cell)
+        words::column(event.grid, event.grid.place(event.cell).1)
     )
 }
 
 /// The row, and where the rounded figure would say another one, the exact sums that decide. That one is the deeper: a value is
 /// rounded onto a border from both sides, and the border belongs to the deeper row.
 fn row(s: &Settings, event: &Found) -> String {
-    let told = words::row(event.cell);
-    let rounded = words::ROW_BORDERS.iter().filter(|border| event.retained > 10 * **border).count();
-    if rounded == event.cell as usize / 8 {
+    let (grid, (row, _)) = (event.grid, event.grid.place(event.cell));
+    let told = words::row(grid, row);
+    let rounded = grid.percents.iter().filter(|border| event.retained > 10 * **border).count();
+    if rounded == row {
         return told;
     }
     format!(
         "{told} and not {}, as the rounded {} would have it: {}",
-        words::row(8 * rounded as u64),
+        words::row(grid, rounded),
         event.retained,
-        exactly(s, event.extreme, words::ROW_BORDERS[rounded])
+        exactly(s, event.extreme, grid.percents[rounded])
     )
 }
 

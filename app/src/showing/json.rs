@@ -2,7 +2,8 @@
 use super::{explain, words};
 use crate::{
     answered::{
-        table::{self, Counts, SETTINGS},
+        grid::Grid,
+        table::{self, Counts, BORDERS, SETTINGS},
         Answer, Cut, Found, Part, Split,
     },
     failure::Refusal,
@@ -159,14 +160,14 @@ pub fn settings(s: &Settings) -> Json {
     Json::Object(SETTINGS.into_iter().zip(numbers.map(Json::whole)).collect())
 }
 
-/// A table, its cells as five rows of eight.
+/// A table, its cells as the rows of its own grid.
 pub fn table(table: &Table) -> Json {
     let (s, c) = (table::settings(table), table::counts(table));
     let row = |counts: &[u64]| Json::List(counts.iter().map(|count| Json::whole(*count)).collect());
     let mut fields = vec![
         ("settings", settings(&s)),
         ("half_cycles", halves(&c)),
-        ("cells", Json::List(table::cells(table).chunks(8).map(row).collect())),
+        ("cells", Json::List(table::rows(table).map(row).collect())),
         ("unplaced", Json::whole(c.unplaced)),
         ("sags", Json::whole(c.sags)),
         ("interruptions", Json::whole(c.interruptions)),
@@ -175,7 +176,13 @@ pub fn table(table: &Table) -> Json {
         ("shortfall_seconds", Json::Number(words::shortfall_seconds(&s, c.shortfall))),
     ];
     fields.extend(by_channel(c.by_channel));
+    fields.push(borders(table::grid(table)));
     Json::Object(fields)
+}
+
+/// The set of borders that cells are by.
+pub fn borders(grid: &Grid) -> (&'static str, Json) {
+    (BORDERS, Json::text(grid.word))
 }
 
 /// What was turned away, and why.

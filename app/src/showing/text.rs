@@ -79,7 +79,8 @@ pub fn cut_note(s: &Settings, answer: &Answer) -> String {
     format!("{} is cut into {} parts.\n{}\n", answer.name, answer.parts.len(), wrapped(&said, ""))
 }
 
-const LIST: [&str; 15] = [
+/// The head of a list, but for its last column.
+const LIST: [&str; 14] = [
     "no",
     "kind",
     "start",
@@ -94,7 +95,6 @@ const LIST: [&str; 15] = [
     "ms lost a / b / c",
     "severity",
     "energy",
-    "cell",
 ];
 
 /// Why three figures may not make up the fourth, for whoever adds them.
@@ -110,7 +110,8 @@ pub fn list(s: &Settings, answer: &Answer, paint: &Paint) -> String {
             let lost = bars(s, &part.events);
             let rows = part.events.iter().zip(lost).enumerate();
             let rows: Vec<_> = rows.map(|(at, (e, lost))| row(s, at, e, lost, words::cut(answer, e))).collect();
-            out += &columns(&LIST, &rows, &[1, 6, 10, 14], paint);
+            let cell = format!("cell ({})", table::grid(&part.own).title);
+            out += &columns(&[&LIST[..], &[&cell]].concat(), &rows, &[1, 6, 10, 14], paint);
             if part.events.iter().any(|event| words::rounds_apart(s, event)) {
                 out += ROUNDED;
             }
@@ -185,14 +186,19 @@ pub fn table(name: &str, table: &Table, paint: &Paint) -> String {
     for (label, told) in lines.into_iter().chain(words::seen_only(&c).map(|said| ("", said.into()))) {
         out += &format!("  {label:<13}  {told}\n");
     }
-    let mut head = vec!["sags by depth"];
-    head.extend(words::COLUMNS);
+    out + "\n" + &grid(table, paint)
+}
+
+/// The sags by depth and duration, in the grid of the table's own set.
+fn grid(table: &Table, paint: &Paint) -> String {
+    let grid = table::grid(table);
+    let head = [&["sags by depth"], grid.columns].concat();
     let depth = |(row, counts): (usize, &[u64])| {
         let counts = counts.iter().map(|count| if *count == 0 { ".".into() } else { count.to_string() });
-        std::iter::once(words::ROWS[row].to_string()).chain(counts).collect()
+        std::iter::once(grid.row(row)).chain(counts).collect()
     };
-    let rows: Vec<Vec<String>> = table::cells(table).chunks(8).enumerate().map(depth).collect();
-    out + "\n" + &columns(&head, &rows, &[0], paint)
+    let rows: Vec<Vec<String>> = table::rows(table).enumerate().map(depth).collect();
+    format!("  {:<13}  {}\n{}", table::BORDERS, grid.title, columns(&head, &rows, &[0], paint))
 }
 
 /// What each recording added.
@@ -223,7 +229,8 @@ pub fn added(s: &Settings, added: &[Answer], paint: &Paint) -> String {
 
 /// A paragraph in lines of up to a hundred characters, each set in. A number and its unit stay together.
 pub fn wrapped(paragraph: &str, indent: &str) -> String {
-    let unit = |word: &str| word.starts_with('%') || word.trim_end_matches(['.', ',', ';', ':', ')']) == "s";
+    let time = |word: &str| ["s", "ms"].contains(&word.trim_end_matches(['.', ',', ';', ':', ')']));
+    let unit = |word: &str| word.starts_with('%') || time(word);
     let mut together: Vec<String> = Vec::new();
     for word in paragraph.split_whitespace() {
         match together.last_mut() {

@@ -1,6 +1,7 @@
 //! The rules' words for numbers: refusals, reasons, kinds, types, rows and columns, and how half-cycles read as seconds.
 use crate::{
     answered::{
+        grid::Grid,
         level::{against, reference},
         table::{Counts, SETTINGS},
         Answer, Cut, Found, Split,
@@ -34,16 +35,6 @@ pub fn cut(answer: &Answer, event: &Found) -> &'static str {
         (false, _) => " (cut there)",
     }
 }
-
-/// The rows of the table, by the extreme.
-pub const ROWS: [&str; 5] = ["at most 10 %", "10 to 40 %", "40 to 70 %", "70 to 85 %", "above 85 %"];
-
-/// The borders between the rows, in percent of R; a voltage on a border belongs to the deeper row.
-pub const ROW_BORDERS: [u64; 4] = [10, 40, 70, 85];
-
-/// The columns of the table, by duration; a duration on a border belongs to the longer column.
-pub const COLUMNS: [&str; 8] =
-    ["< 1 cycle", "< 0.1 s", "0.1-0.5 s", "0.5-1 s", "1-3 s", "3-20 s", "20-60 s", "60 s up"];
 
 /// Why something was turned away.
 fn refusal(refused: &Refused) -> String {
@@ -137,17 +128,17 @@ pub fn class_told(number: u64) -> String {
 }
 
 /// A cell's row and column in words.
-pub fn cell(number: u64) -> String {
-    format!("{}, {}", row(number), column(number))
+pub fn cell(grid: &Grid, number: u64) -> String {
+    let (at_row, at_column) = grid.place(number);
+    format!("{}, {}", row(grid, at_row), column(grid, at_column))
 }
 
-pub fn row(cell: u64) -> String {
-    ROWS.get(cell as usize / 8).map_or("no row".into(), |depth| format!("row {} ({depth})", cell / 8))
+pub fn row(grid: &Grid, at: usize) -> String {
+    format!("row {at} ({})", grid.row(at))
 }
 
-pub fn column(cell: u64) -> String {
-    let column = cell as usize % 8;
-    format!("column {column} ({})", COLUMNS[column])
+pub fn column(grid: &Grid, at: usize) -> String {
+    format!("column {at} ({})", grid.columns[at])
 }
 
 /// Half-cycles as seconds: half-cycles / 2f.

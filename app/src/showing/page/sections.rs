@@ -29,7 +29,7 @@ pub fn page(contents: &Contents) -> String {
     let mut body = format!(
         "<header><p class=\"over\">Burrcradle report: voltage sags, interruptions and swells</p><h1>{name}</h1>\
          <p class=\"sub\">{}</p><p class=\"sub\">Made on {} by burrcradle {version}.</p></header>\n",
-        esc(&words::settings(&s)),
+        esc(&format!("{}; borders {}", words::settings(&s), table::grid(contents.table).title)),
         esc(&contents.made)
     );
     body += &site_section(&s, contents);
@@ -79,12 +79,13 @@ fn site_section(s: &Settings, contents: &Contents) -> String {
         "<section><h2>The site's table</h2><p class=\"note\">{}</p><div class=\"tiles\">{}</div>\n\
          <h3>Shortfall by channel</h3>{}\n<h3>Half-cycles</h3>{}\n\
          <h3>Sags by depth and duration</h3>{}\n<p class=\"note\">Rows by the smallest voltage that was left, columns by \
-         duration. A sag with an unseen end has no cell: {} unplaced.</p></section>\n",
+         duration, with the borders of {}. A sag with an unseen end has no cell: {} unplaced.</p></section>\n",
         esc(&relation(contents)),
         tiles.concat(),
         by_channel(s, &c),
         drawn::bar(contents.table),
         drawn::heat(contents.table),
+        table::grid(contents.table).title,
         c.unplaced
     )
 }
@@ -284,7 +285,7 @@ fn event_row(s: &Settings, number: usize, event: &Found, cut: &str) -> String {
         Some(score) => (
             format!("{:.3}", score.severity),
             format!("{:.3} s", score.energy),
-            format!("cell {}{cut}<i>{}</i>", event.cell, esc(&words::cell(event.cell))),
+            format!("cell {}{cut}<i>{}</i>", event.cell, esc(&words::cell(event.grid, event.cell))),
         ),
         None => (
             "none".into(),

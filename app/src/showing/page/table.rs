@@ -1,9 +1,6 @@
 //! The site's table: its half-cycles as one bar, its sags as a heat map.
 use super::svg::{esc, line, rect, text, whole, WIDTH};
-use crate::{
-    answered::table::{cells, counts},
-    showing::words,
-};
+use crate::answered::table::{cells, counts, grid};
 use host::Table;
 
 /// Healthy, disturbed and unknown half-cycles as one bar, which shrinks with the page. Unknown is hatched, has the colour of
@@ -27,25 +24,28 @@ pub fn bar(table: &Table) -> String {
     )
 }
 
-/// The sags by depth and duration, darker where there are more, each cell with its count.
+/// The sags by depth and duration in the grid of the table's own set, darker where there are more, each cell with its count.
 pub fn heat(table: &Table) -> String {
-    let (left, top, wide, high) = (130.0, 24.0, (WIDTH - 130.0) / 8.0, 34.0);
+    let grid = grid(table);
+    let (left, top, wide, high) = (130.0, 24.0, (WIDTH - 130.0) / grid.columns.len() as f64, 34.0);
     let most = cells(table).iter().copied().max().unwrap_or(0);
     let mut out = String::new();
-    for (column, said) in words::COLUMNS.iter().enumerate() {
+    for (column, said) in grid.columns.iter().enumerate() {
         out += &text("tick", "middle", left + (column as f64 + 0.5) * wide, top - 9.0, said);
     }
-    for (cell, count) in cells(table).iter().enumerate() {
-        let (x, y) = (left + (cell % 8) as f64 * wide, top + (cell / 8) as f64 * high);
+    for (cell, count) in (0..).zip(cells(table)) {
+        let (row, column) = grid.place(cell);
+        let (x, y) = (left + column as f64 * wide, top + row as f64 * high);
         let level = level(*count, most);
         out += &rect(&format!("cell heat{level}"), x + 1.0, y + 1.0, wide - 2.0, high - 2.0);
         out += &text(&format!("count heat{level}"), "middle", x + wide / 2.0, y + 22.0, &count.to_string());
     }
-    for (row, said) in words::ROWS.iter().enumerate() {
-        out += &text("tick", "end", left - 10.0, top + (row as f64 + 0.5) * high + 4.0, said);
+    for row in 0..grid.rows() {
+        out += &text("tick", "end", left - 10.0, top + (row as f64 + 0.5) * high + 4.0, &grid.row(row));
     }
-    out += &line("grid", left, top + 5.0 * high + 1.0, WIDTH, top + 5.0 * high + 1.0);
-    whole(WIDTH, top + 5.0 * high + 4.0, "sags by depth and duration", &out)
+    let bottom = top + grid.rows() as f64 * high;
+    out += &line("grid", left, bottom + 1.0, WIDTH, bottom + 1.0);
+    whole(WIDTH, bottom + 4.0, &format!("sags by depth and duration, borders {}", grid.title), &out)
 }
 
 /// A shade from 0, for none, to 5, for the most, by the count's logarithm.
