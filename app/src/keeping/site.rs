@@ -1,9 +1,10 @@
-//! A site's file: a version line, then the table's 59 numbers by name, one to a line. It is replaced as a whole, so that
+//! A site's file: a version line, then the table's 60 numbers by name, one to a line. It is replaced as a whole, so that
 //! a kill at any moment leaves the old or the new table, and a file that makes no sense is never written over. Nor is one of
-//! an earlier version: it lacks what each channel lost, and nothing in it tells that.
+//! version 1 or 2: it lacks what each channel lost, and nothing in it tells that. One of version 3 lacks the set of borders, which
+//! could only be the first: it is read as that, and the next writing makes it one of this version.
 use super::beside::{self, Beside};
 use crate::{
-    answered::table,
+    answered::{grid, table},
     failure::{Failure, Refusal},
 };
 use host::{Refused, Table, TABLE};
@@ -18,7 +19,10 @@ use std::{
 
 /// The version line: this, and then the version.
 const KEPT: &str = "burrcradle site ";
-const VERSION: &str = "3";
+const VERSION: &str = "4";
+
+/// The version from before a table had a set of borders.
+const BEFORE_SETS: &str = "3";
 
 /// The versions from before shortfalls were counted by channel.
 const EARLIER: [&str; 2] = ["1", "2"];
@@ -42,22 +46,22 @@ fn sound(table: Table) -> Result<Table, Refused> {
     }
 }
 
-/// Why a file with this version line can't be read; nothing where it can.
-fn unreadable(line: &str) -> Option<String> {
+/// Whether a file with this version line has the set of borders; or why it can't be read.
+fn has_set(line: &str) -> Result<bool, String> {
     match line.strip_prefix(KEPT) {
-        Some(VERSION) => None,
-        Some(earlier) if EARLIER.contains(&earlier) => Some(format!(
+        Some(VERSION) => Ok(true),
+        Some(BEFORE_SETS) => Ok(false),
+        Some(earlier) if EARLIER.contains(&earlier) => Err(format!(
             "line 1: a site's file of version {earlier}, kept before shortfalls were counted by channel. What each channel lost \
              can't be worked out from it, and it is left as it is: `burrcradle new`, under another name, and `burrcradle add` \
              make the site anew from its recordings"
         )),
-        _ => {
-            Some(format!("line 1: {line:?} where \"{KEPT}{VERSION}\" is wanted: no site's file, or of another version"))
-        }
+        _ => Err(format!("line 1: {line:?} where \"{KEPT}{VERSION}\" is wanted: no site's file, or of another version")),
     }
 }
 
-/// Reads what `render` writes and nothing else: a value in other digits or a line cut short is an error.
+/// Reads what `render` writes, or wrote before there were sets, and nothing else: a value in other digits or a line cut short is
+/// an error.
 fn parse(bytes: &[u8]) -> Result<Table, String> {
     let text = String::from_utf8_lossy(bytes);
     let mut lines = text.split_inclusive('\n').enumerate().map(|(at, line)| (at + 1, line));
@@ -69,11 +73,13 @@ fn parse(bytes: &[u8]) -> Result<Table, String> {
         None => Err(format!("the file ends where {wanted} is wanted")),
     };
     let (_, version) = next("the version line")?;
-    if let Some(why) = unreadable(&version) {
-        return Err(why);
-    }
+    let has_set = has_set(&version)?;
     let mut table = [0; TABLE];
     for (word, name) in table.iter_mut().zip(table::names()) {
+        if name == table::BORDERS && !has_set {
+            *word = grid::FIRST;
+            continue;
+        }
         let (at, line) = next(&name)?;
         *word = value(&line, &name).map_err(|why| format!("line {at}: {why}"))?;
     }
