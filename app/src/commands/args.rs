@@ -1,6 +1,9 @@
 //! The command line: what a command takes, and what it was given.
 use crate::{
-    answered::table::{settings, SETTINGS},
+    answered::{
+        grid::{self, GRIDS},
+        table::{set, settings, SETTINGS},
+    },
     failure::Failure,
     keeping::site,
 };
@@ -139,21 +142,39 @@ impl Args {
         }
     }
 
-    /// The table of the site, where one is named; a site and settings of one's own exclude each other.
+    /// The table of the site, where one is named; a site and settings or borders of one's own exclude each other.
     pub fn site(&self) -> Result<Option<Table>, Failure> {
         let own = self.values.iter().any(|(name, _)| is_setting(name));
         match self.value("--site") {
             Some(_) if own => {
                 usage("--site has its settings already: leave out --n, --r, --f and the thresholds".into())
             }
+            Some(_) if self.value("--borders").is_some() => {
+                usage("--site has its borders already: leave out --borders".into())
+            }
             Some(path) => site::load(Path::new(path)).map(Some),
             None => Ok(None),
         }
     }
 
-    /// The settings of the site or of the options.
-    pub fn settings_or_site(&self) -> Result<Settings, Failure> {
-        self.site()?.map_or_else(|| self.settings(), |table| Ok(settings(&table)))
+    /// The settings and the set of borders, of the site or of the options.
+    pub fn terms(&self) -> Result<(Settings, u64), Failure> {
+        match self.site()? {
+            Some(table) => Ok((settings(&table), set(&table))),
+            None => Ok((self.settings()?, self.borders()?)),
+        }
+    }
+
+    /// The set of borders that the options name.
+    pub fn borders(&self) -> Result<u64, Failure> {
+        let Some(value) = self.value("--borders") else { return Ok(grid::FIRST) };
+        match value.to_str().and_then(grid::named) {
+            Some(set) => Ok(set),
+            None => {
+                let words: Vec<&str> = GRIDS.iter().map(|grid| grid.word).collect();
+                usage(format!("--borders wants {}, and {value:?} is none of these", words.join(" or ")))
+            }
+        }
     }
 
     /// The settings of the options. Whether they are allowed is for the library to say.

@@ -4,7 +4,7 @@ use super::{
     events,
 };
 use crate::{
-    answered::table::settings,
+    answered::{grid, table::settings},
     asking::measure,
     failure::{Failure, Refusal},
     reading::{self, How},
@@ -17,7 +17,7 @@ use crate::{
 };
 use host::Table;
 
-pub const TAKES: Takes = events::EXPLAIN;
+pub const TAKES: Takes = Takes { values: &["--site"], ..events::EXPLAIN };
 
 pub fn run(args: &Args) -> Result<Said, Failure> {
     let format = args.format()?;
@@ -50,9 +50,9 @@ pub fn run(args: &Args) -> Result<Said, Failure> {
     Ok(Said { text, done: None, refused })
 }
 
-/// A table that recordings could be added to, where no site is named.
+/// A table that recordings could be added to, where no site is named. What it would take is the same by any set of borders.
 fn fresh(args: &Args) -> Result<Table, Failure> {
-    let (made, table) = host::fresh(&args.settings()?);
+    let (made, table) = host::fresh(&args.settings()?, grid::FIRST);
     let refusal = |refused| Refusal { what: "the settings".into(), refused, more: String::new() };
     made.map(|()| table).map_err(|refused| Failure::Refused(refusal(refused)))
 }

@@ -4,6 +4,7 @@ use super::{
     report::{now, wish},
 };
 use crate::{
+    answered::grid,
     asking::{self, curve},
     failure::Failure,
     keeping::page as kept,
@@ -24,7 +25,8 @@ use crate::{
 use host::Settings;
 use std::{f64::consts::TAU, path::Path};
 
-pub const TAKES: Takes = Takes { files: &[], many: false, settings: false, values: &[], flags: &["--save", "--force"] };
+pub const TAKES: Takes =
+    Takes { files: &[], many: false, settings: false, values: &["--borders"], flags: &["--save", "--force"] };
 
 const SETTINGS: Settings = Settings { n: 64, r: 23_000, f: 50, sag: 90, interruption: 10, swell: 110, hysteresis: 2 };
 
@@ -95,17 +97,17 @@ fn recording(lesson: &Lesson) -> Recording {
 /// The `demo` command.
 pub fn run(args: &Args) -> Result<Said, Failure> {
     let (s, paint, out) = (&SETTINGS, Paint::stdout(), Path::new("demo.html"));
-    let (save, force) = (args.flag("--save"), args.flag("--force"));
+    let (set, save, force) = (args.borders()?, args.flag("--save"), args.flag("--force"));
     let made: Vec<(&Lesson, Recording)> = LESSONS.iter().map(|lesson| (lesson, recording(lesson))).collect();
     // All that is to be written is held against what is there before any of it is written.
     kept::may_go(out, page::MARK, force)?;
     for (lesson, recording) in made.iter().filter(|_| save) {
         kept::may_go_as(Path::new(lesson.file), as_csv(recording).as_bytes())?;
     }
-    let (_, mut table) = host::fresh(s);
+    let (_, mut table) = host::fresh(s, set);
     let (mut said, mut recordings) = (format!("Settings: {}\n", words::settings(s)), Vec::new());
     for (lesson, recording) in &made {
-        let answer = asking::about(s, recording, wish(false))?;
+        let answer = asking::about(s, set, recording, wish(false))?;
         said += &format!("\n{}{}\n", text::list(s, &answer, &paint), text::wrapped(lesson.error, "  "));
         asking::add(&mut table, recording, false)?;
         let bytes = as_csv(recording);
@@ -121,16 +123,17 @@ pub fn run(args: &Args) -> Result<Said, Failure> {
         Contents { name: "demo", table: &table, holds: true, recordings: &recordings, curve: &curve, made: now() };
     kept::write(out, &page::page(&contents), page::MARK, force)?;
     said += "\ndemo.html: written, the same as a page for the browser or the printer\n";
-    Ok(Said::after("demo.html: the page was written".into(), said + &saved(save)))
+    Ok(Said::after("demo.html: the page was written".into(), said + &saved(save, set)))
 }
 
-fn saved(save: bool) -> String {
+fn saved(save: bool, set: u64) -> String {
     if !save {
         return String::new();
     }
     let files: Vec<&str> = LESSONS.iter().map(|lesson| lesson.file).collect();
+    let borders = if set == grid::FIRST { String::new() } else { format!(" --borders {}", grid::of(set).word) };
     format!(
-        "{}: written. To go on:\n    burrcradle new depot.site --n {} --r {} --f {}\n    burrcradle add depot.site demo-*.csv\n",
+        "{}: written. To go on:\n    burrcradle new depot.site --n {} --r {} --f {}{borders}\n    burrcradle add depot.site demo-*.csv\n",
         files.join(", "),
         SETTINGS.n,
         SETTINGS.r,

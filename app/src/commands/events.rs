@@ -1,7 +1,7 @@
 //! `list` and `explain`: the events of recordings.
 use super::args::{Args, Format, Takes};
 use crate::{
-    answered::Answer,
+    answered::{grid, Answer},
     asking::{self, Wish},
     failure::Failure,
     reading::{self, How},
@@ -19,10 +19,10 @@ pub const LIST: Takes = Takes {
     files: &["RECORDING"],
     many: true,
     settings: true,
-    values: &["--site", "--room"],
+    values: &["--site", "--borders", "--room"],
     flags: &["--cut", "--raw", "--json", "--csv"],
 };
-pub const EXPLAIN: Takes = Takes { values: &["--site"], ..LIST };
+pub const EXPLAIN: Takes = Takes { values: &["--site", "--borders"], ..LIST };
 
 pub fn list(args: &Args) -> Result<Said, Failure> {
     let room = match args.whole("--room")? {
@@ -37,12 +37,12 @@ pub fn explain(args: &Args) -> Result<Said, Failure> {
 }
 
 fn told(args: &Args, wish: Wish, in_text: fn(&Settings, &Answer, &Paint) -> String) -> Result<Said, Failure> {
-    let (format, s) = (args.format()?, args.settings_or_site()?);
+    let (format, (s, set)) = (args.format()?, args.terms()?);
     let mut answers = Vec::new();
     for file in &args.files {
         let _progress = Progress::on(&format!("listing {}", reading::name(file)));
         let recording = reading::read(file, How { raw: args.flag("--raw"), fingerprint: false })?;
-        answers.push(asking::about(&s, &recording, wish)?);
+        answers.push(asking::about(&s, set, &recording, wish)?);
     }
     let text = match format {
         Format::Text => {
@@ -51,10 +51,11 @@ fn told(args: &Args, wish: Wish, in_text: fn(&Settings, &Answer, &Paint) -> Stri
         }
         Format::Json => {
             let told = answers.iter().map(|answer| json::recording(&s, answer, wish.close)).collect();
-            let fields = vec![("settings", json::settings(&s)), ("recordings", Json::List(told))];
+            let (recordings, borders) = (("recordings", Json::List(told)), json::borders(grid::of(set)));
+            let fields = vec![("settings", json::settings(&s)), recordings, borders];
             format!("{}\n", Json::Object(fields))
         }
-        Format::Csv => csv::events(&s, &answers, wish.close),
+        Format::Csv => csv::events(&s, grid::of(set), &answers, wish.close),
     };
     Ok(text.into())
 }

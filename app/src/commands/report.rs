@@ -1,7 +1,7 @@
 //! `report`: one page about a site and some recordings.
 use super::args::{Args, Takes};
 use crate::{
-    answered::table::settings,
+    answered::table::{set, settings},
     asking::{self, curve, Wish},
     failure::Failure,
     keeping::{page as kept, site},
@@ -58,7 +58,7 @@ pub fn run(args: &Args) -> Result<Said, Failure> {
     for file in &args.files[1..] {
         let _progress = Progress::on(&format!("drawing {}", reading::name(file)));
         let recording = reading::read(file, How { raw: args.flag("--raw"), fingerprint: true })?;
-        let answer = asking::about(&s, &recording, wish(args.flag("--cut")))?;
+        let answer = asking::about(&s, set(&table), &recording, wish(args.flag("--cut")))?;
         recordings.push(Shown { answer, fingerprint: recording.fingerprint, note: String::new() });
     }
     let (name, curve) = (path.display().to_string(), curve::steps(&s));

@@ -18,7 +18,7 @@ use host::{Settings, Table};
 use std::{ffi::OsString, path::Path, time::Duration};
 
 pub const NEW: Takes =
-    Takes { files: &["SITE"], many: false, settings: true, values: &[], flags: &["--json", "--csv"] };
+    Takes { files: &["SITE"], many: false, settings: true, values: &["--borders"], flags: &["--json", "--csv"] };
 pub const ADD: Takes = Takes {
     files: &["SITE", "RECORDING"],
     many: true,
@@ -31,7 +31,7 @@ pub const SHOW: Takes =
 
 pub fn new(args: &Args) -> Result<Said, Failure> {
     let (path, format) = (Path::new(&args.files[0]), args.format()?);
-    let (made, table) = host::fresh(&args.settings()?);
+    let (made, table) = host::fresh(&args.settings()?, args.borders()?);
     let what = path.display().to_string();
     made.map_err(|refused| Failure::Refused(Refusal { what, refused, more: String::new() }))?;
     site::create(path, &table)?;
