@@ -54,7 +54,7 @@ fn list_is_aligned_and_plain() {
     folder.write("k.csv", csv(&k2()));
     let wanted = "\
 k.csv: 5 half-cycles (0.050 s): 2 healthy, 3 disturbed, 0 unknown; 1 event
-  no  kind  start  end       at   lasted  seen  extreme  retained  shortfall  type  ms lost a / b / c  severity   energy  cell
+  no  kind  start  end       at   lasted  seen  extreme  retained  shortfall  type  ms lost a / b / c  severity   energy  cell (UNIPEDE)
    1  sag       1    4  0.010 s  0.030 s  both  2000000       500   36000000  A          15 / 15 / 15     1.000  0.045 s  17
 ";
     assert_eq!(folder.accepted(&[&["list", "k.csv"][..], &KNOWN].concat()), wanted);
@@ -70,7 +70,7 @@ fn list_in_json() {
         {\"total\":5,\"healthy\":2,\"disturbed\":3,\"unknown\":0},\"events\":[{\"kind\":1,\"kind_word\":\"sag\",\"start\":1,\
         \"end\":4,\"start_seconds\":0.01,\"seen\":3,\"cut\":0,\"extreme\":2000000,\"retained\":500,\"shortfall\":36000000,\"type\":0,\"type_word\":\"A\",\
         \"reason\":0,\"reason_words\":\"scored\",\"cell\":17,\"severity\":1,\"energy\":0.045,\
-        \"shortfall_a\":12000000,\"shortfall_b\":12000000,\"shortfall_c\":12000000}]}]}]}\n";
+        \"shortfall_a\":12000000,\"shortfall_b\":12000000,\"shortfall_c\":12000000}]}]}],\"borders\":\"unipede\"}\n";
     assert_eq!(folder.accepted(&[&["list", "k.csv", "--json"][..], &KNOWN].concat()), wanted);
     let swell = csv(&blocks(&[1000, 1000, 1200, 1200, 1000, 1000]));
     folder.write("k.csv", swell);
@@ -155,6 +155,7 @@ x.site: N 8, R 1000, 50 Hz; sag 90 %, interruption 10 %, swell 110 %, hysteresis
     channel b    24000000 = 0.030 s
     channel c    24000000 = 0.030 s
 
+  borders        UNIPEDE
   sags by depth  < 1 cycle  < 0.1 s  0.1-0.5 s  0.5-1 s  1-3 s  3-20 s  20-60 s  60 s up
   at most 10 %           .        .          .        .      .       .        .        .
   10 to 40 %             .        .          .        .      .       .        .        .
@@ -166,11 +167,16 @@ x.site: N 8, R 1000, 50 Hz; sag 90 %, interruption 10 %, swell 110 %, hysteresis
     let json = folder.accepted(&["show", "x.site", "--json"]);
     let cells = "\"cells\":[[0,0,0,0,0,0,0,0],[0,0,0,0,0,0,0,0],[0,2,0,0,0,0,0,0],[0,0,0,0,0,0,0,0],[0,0,0,0,0,0,0,0]]";
     let shortfalls = "\"shortfall\":72000000,\"shortfall_seconds\":0.090,\
-        \"shortfall_a\":24000000,\"shortfall_b\":24000000,\"shortfall_c\":24000000}\n";
+        \"shortfall_a\":24000000,\"shortfall_b\":24000000,\"shortfall_c\":24000000,\"borders\":\"unipede\"}\n";
     assert!(json.contains(cells) && json.ends_with(shortfalls), "{json}");
     let csv = folder.accepted(&["show", "x.site", "--csv"]);
-    assert_eq!(csv.lines().count(), 60);
-    assert_eq!(csv.replace(',', " ").replace("name value\n", "burrcradle site 3\n"), folder.read("x.site"));
+    assert_eq!(csv.lines().count(), 61);
+    let numbers = folder.read("x.site").replace("burrcradle site 4\n", "name value\n").replace("borders 0\n", "");
+    assert_eq!(
+        csv.replace(',', " "),
+        numbers + "borders unipede\n",
+        "all that the file has, and the borders' word last"
+    );
 }
 
 #[test]

@@ -32,7 +32,7 @@ fn the_score_is_worked_out() {
              half-cycle 0 before it is known, so the start is seen.",
             "severity (1000 - 500) / (1000 - 500) = 1.000: retained 500, and 500 is the curve's value for 3 half-cycles",
             "energy 0.045 s: shortfall 36000000 / (8 x 1000 x 1000 x 2 x 50), rounded down to milliseconds",
-            "cell 17: row 2 (40 to 70 %), column 1 (< 0.1 s).",
+            "cell 17 (UNIPEDE): row 2 (40 to 70 %), column 1 (< 0.1 s).",
         ],
     );
 }
@@ -80,7 +80,7 @@ fn the_landing_has_its_hysteresis() {
             "landing  half-cycle 5 (at 0.050 s): all channels are back at 92 % of R or more (90 + hysteresis 2): a 92.0 %, \
              b 92.0 %, c 92.0 %; it is known, so the end is seen. Lasted 4 half-cycles = 0.040 s.",
             "severity (1000 - 899) / (1000 - 500) = 0.202",
-            "cell 33: row 4 (above 85 %), column 1 (< 0.1 s)",
+            "cell 33 (UNIPEDE): row 4 (above 85 %), column 1 (< 0.1 s)",
         ],
     );
 }
@@ -97,19 +97,25 @@ fn amid(first: [i32; 4], second: [i32; 4]) -> Vec<i32> {
 #[test]
 fn the_row_goes_by_exact_sums() {
     let k7 = explained("explain-k7", &blocks(&[1000, 1000, 100, 101, 1000, 1000]));
-    says(&k7, &["80804, on a, b and c; retained 101 = 10.1 %", "cell 9: row 1 (10 to 40 %), column 1 (< 0.1 s)."]);
+    says(
+        &k7,
+        &["80804, on a, b and c; retained 101 = 10.1 %", "cell 9 (UNIPEDE): row 1 (10 to 40 %), column 1 (< 0.1 s)."],
+    );
     let half = explained("explain-half", &amid([201, 0, 0, 0], [0, 201, 0, 0]));
-    says(&half, &["80802, on a, b and c; retained 101 = 10.1 %", "cell 9: row 1 (10 to 40 %), column 1 (< 0.1 s)."]);
+    says(
+        &half,
+        &["80802, on a, b and c; retained 101 = 10.1 %", "cell 9 (UNIPEDE): row 1 (10 to 40 %), column 1 (< 0.1 s)."],
+    );
     says(
         &explained("explain-below-half", &amid([201, 0, 0, 0], [200, 20, 0, 0])),
         &[
             "80801, on a, b and c; retained 100 = 10.0 % of R, rounded to the nearest, halves upward; type A",
-            "cell 9: row 1 (10 to 40 %) and not row 0 (at most 10 %), as the rounded 100 would have it: the exact \
+            "cell 9 (UNIPEDE): row 1 (10 to 40 %) and not row 0 (at most 10 %), as the rounded 100 would have it: the exact \
              10000 x 80801 = 808010000 is more than 10 x 10 x 8 x 1000 x 1000 = 800000000, column 1 (< 0.1 s).",
         ],
     );
     let on_the_border = explained("explain-row-border", &blocks(&[1000, 1000, 100, 100, 1000, 1000]));
-    says(&on_the_border, &["cell 1: row 0 (at most 10 %), column 1 (< 0.1 s)."]);
+    says(&on_the_border, &["cell 1 (UNIPEDE): row 0 (at most 10 %), column 1 (< 0.1 s)."]);
 }
 
 /// A value beside a border is never shown as if it were on it: one sample of 899 among 900 makes 899.9, which is 900 to the

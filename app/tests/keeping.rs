@@ -241,7 +241,7 @@ fn a_link_beside_a_site_is_not_followed() {
 #[test]
 fn leftovers_of_a_kill_are_swept() {
     let folder = with_k2("keep-swept");
-    folder.write(".x.site.4711-0.new", "burrcradle site 3\nn 8\nr 10");
+    folder.write(".x.site.4711-0.new", "burrcradle site 4\nn 8\nr 10");
     for other in [".x.site.new", ".x.site.47-11-0.new", ".y.site.4711-0.new", "x.site.4711-0.new"] {
         folder.write(other, "mine");
     }

@@ -154,6 +154,8 @@ fn refusal_9_finds_each_kind_of_damage() {
     let good = folder.read("x.site");
     let damage = [
         ("hysteresis 2", "hysteresis 6"),
+        ("borders 0", "borders 2"),
+        ("borders 0", "borders 18446744073709551615"),
         ("unknown 0", "unknown 1"),
         ("cell-1 1", "cell-1 2"),
         ("unplaced 0", "unplaced 1"),
@@ -189,6 +191,43 @@ fn refusal_9_finds_each_kind_of_damage() {
     folder.accepted(&["show", "x.site"]);
     folder.write("x.site", parts("48000000", ["18446744073709551615", "48000001", "0"]));
     folder.refused(&["show", "x.site"], 9, 0);
+}
+
+/// A set that there is not, and a sag in a cell that the set has not: told by every command, and left. That the counts add up does
+/// not help.
+#[test]
+fn refusal_9_for_borders_that_do_not_fit() {
+    let folder = Folder::new("refusal-9-borders");
+    folder.accepted(&[&["new", "x.site", "--borders", "4-11"][..], &KNOWN].concat());
+    folder.write("k.csv", csv(&k2()));
+    folder.accepted(&["add", "x.site", "k.csv"]);
+    let good = folder.read("x.site");
+    assert!(good.contains("\nborders 1\n") && good.contains("\ncell-11 1\n"), "{good}");
+    let moved = |cell: &str| {
+        good.replace("\ncell-11 1\n", "\ncell-11 0\n").replace(&format!("\n{cell} 0\n"), &format!("\n{cell} 1\n"))
+    };
+    let commands: [&[&str]; 6] = [
+        &["show", "x.site"],
+        &["add", "x.site", "k.csv"],
+        &["list", "k.csv", "--site", "x.site"],
+        &["explain", "k.csv", "--site", "x.site"],
+        &["check", "k.csv", "--site", "x.site"],
+        &["report", "x.site", "k.csv", "-o", "x.html"],
+    ];
+    for text in [good.replace("\nborders 1\n", "\nborders 2\n"), moved("cell-25"), moved("cell-39")] {
+        folder.write("x.site", &text);
+        for args in commands {
+            let ran = folder.refused(args, 9, 0);
+            assert!(ran.err.contains("x.site: refusal 9, place 0: the table offered is unsound"), "{ran:?}");
+        }
+        assert_eq!(folder.read("x.site"), text);
+        assert!(!folder.path("x.html").exists());
+    }
+    // The last cell of the set is one, and by the other set the same cells are.
+    for text in [moved("cell-24"), moved("cell-39").replace("\nborders 1\n", "\nborders 0\n")] {
+        folder.write("x.site", &text);
+        folder.accepted(&["show", "x.site"]);
+    }
 }
 
 /// Parts that don't add up are told as any other damage, by every command, and left.

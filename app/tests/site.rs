@@ -16,15 +16,15 @@ fn with_k2(name: &str) -> Folder {
 }
 
 #[test]
-fn the_file_is_59_names_and_numbers() {
+fn the_file_is_60_names_and_numbers() {
     let folder = with_k2("site-file");
     folder.accepted(&["add", "x.site", "k.csv"]);
     let text = folder.read("x.site");
     let lines: Vec<&str> = text.lines().collect();
-    assert_eq!(lines.len(), 60);
-    assert_eq!(lines[0], "burrcradle site 3");
+    assert_eq!(lines.len(), 61);
+    assert_eq!(lines[0], "burrcradle site 4");
     assert_eq!(
-        lines[1..12],
+        lines[1..13],
         [
             "n 8",
             "r 1000",
@@ -33,15 +33,16 @@ fn the_file_is_59_names_and_numbers() {
             "interruption 10",
             "swell 110",
             "hysteresis 2",
+            "borders 0",
             "total 5",
             "healthy 2",
             "disturbed 3",
             "unknown 0",
         ]
     );
-    assert_eq!((lines[12], lines[29], lines[51]), ("cell-0 0", "cell-17 1", "cell-39 0"));
-    assert_eq!(lines[52..57], ["unplaced 0", "sags 1", "interruptions 0", "swells 0", "shortfall 36000000"]);
-    assert_eq!(lines[57..], ["shortfall-a 12000000", "shortfall-b 12000000", "shortfall-c 12000000"]);
+    assert_eq!((lines[13], lines[30], lines[52]), ("cell-0 0", "cell-17 1", "cell-39 0"));
+    assert_eq!(lines[53..58], ["unplaced 0", "sags 1", "interruptions 0", "swells 0", "shortfall 36000000"]);
+    assert_eq!(lines[58..], ["shortfall-a 12000000", "shortfall-b 12000000", "shortfall-c 12000000"]);
 }
 
 /// A file cut short anywhere is a parse error, and `add` leaves it as it is.
@@ -58,7 +59,7 @@ fn a_file_cut_short_is_told() {
     }
     let short = &whole[..whole.len() - 3];
     folder.write("x.site", short);
-    folder.bad(&["add", "x.site", "k.csv"], "line 60 is cut short");
+    folder.bad(&["add", "x.site", "k.csv"], "line 61 is cut short");
     assert_eq!(folder.read("x.site"), short);
 }
 
@@ -68,8 +69,8 @@ fn an_edited_file_is_told_with_its_line() {
     let good = folder.read("x.site");
     let cases = [
         (
-            good.replace("burrcradle site 3\n", ""),
-            "line 1: \"n 8\" where \"burrcradle site 3\" is wanted: no site's file, or",
+            good.replace("burrcradle site 4\n", ""),
+            "line 1: \"n 8\" where \"burrcradle site 4\" is wanted: no site's file, or",
         ),
         (good.replace("\nr 1000\n", "\nr 1e3\n"), "line 3: \"1e3\" is no whole number"),
         (good.replace("\nr 1000\n", "\nr -1000\n"), "line 3: "),
@@ -78,15 +79,18 @@ fn an_edited_file_is_told_with_its_line() {
         (good.replace("\nr 1000\n", "\nr 18446744073709551616\n"), "line 3: "),
         (good.replace("\nr 1000\n", "\nr\n"), "line 3: "),
         (good.replace("\nr 1000\n", "\n"), "line 3: \"f 50\" where \"r\""),
-        (good.replace("\ntotal 0\n", "\ntotals 0\n"), "line 9: "),
+        (good.replace("\nborders 0\n", "\n"), "line 9: \"total 0\" where \"borders\" and its number are wanted"),
+        (good.replace("\nborders 0\n", "\nborders unipede\n"), "line 9: \"unipede\" is no whole number"),
+        (good.replace("\nborders 0\n", "\nborders 4-11\n"), "line 9: \"4-11\" is no whole number"),
+        (good.replace("\ntotal 0\n", "\ntotals 0\n"), "line 10: "),
         (good.replace('\n', "\r\n"), "line 1: "),
-        (format!("{good}\n"), "line 61: "),
-        (format!("{good}cell-40 0\n"), "line 61: "),
-        (format!("{good}x"), "line 61 is cut short"),
-        (good.replace("sags", "s\u{fffd}gs"), "line 54: "),
-        (good.replace("\nshortfall-b 0\n", "\n"), "line 59: \"shortfall-c 0\" where \"shortfall-b\""),
+        (format!("{good}\n"), "line 62: "),
+        (format!("{good}cell-40 0\n"), "line 62: "),
+        (format!("{good}x"), "line 62 is cut short"),
+        (good.replace("sags", "s\u{fffd}gs"), "line 55: "),
+        (good.replace("\nshortfall-b 0\n", "\n"), "line 60: \"shortfall-c 0\" where \"shortfall-b\""),
         (good.replace("\nshortfall-c 0\n", "\n"), "the file ends where shortfall-c is wanted"),
-        (good.replace("\nshortfall-a 0\n", "\nshortfall-a -1\n"), "line 58: \"-1\" is no whole number"),
+        (good.replace("\nshortfall-a 0\n", "\nshortfall-a -1\n"), "line 59: \"-1\" is no whole number"),
     ];
     for (text, words) in cases {
         folder.write("x.site", &text);
@@ -166,11 +170,13 @@ fn an_earlier_site_is_made_anew_from_its_recordings() {
         let numbers = kept.lines().skip(1).filter(|line| *line != "stray 0").collect::<Vec<_>>();
         assert_eq!(numbers.len(), 56);
         let parts = ["shortfall-a 16000000", "shortfall-b 16000000", "shortfall-c 16000000"];
-        assert_eq!(anew.lines().skip(1).collect::<Vec<_>>(), [&numbers[..], &parts].concat());
+        let wanted = [&numbers[..7], &["borders 0"], &numbers[7..], &parts].concat();
+        assert_eq!(anew.lines().skip(1).collect::<Vec<_>>(), wanted);
     }
 }
 
-/// The version line alone tells, whatever follows it; and an earlier file under this version's line is a parse error.
+/// The version line alone tells, whatever follows it; and an earlier file under the line of a version that is read is a parse
+/// error.
 #[test]
 fn an_earlier_version_is_told_by_its_line() {
     let folder = with_k6("site-earlier-line");
@@ -182,10 +188,118 @@ fn an_earlier_version_is_told_by_its_line() {
             assert_eq!(err == told_of(version), length >= first, "{length}: {err}");
         }
     }
-    let relabelled = |at: usize| EARLIER[at].1.replacen(&format!("site {}", EARLIER[at].0), "site 3", 1);
+    let relabelled = |at: usize, version: &str| {
+        let (was, kept) = EARLIER[at];
+        kept.replacen(&format!("site {was}"), &format!("site {version}"), 1)
+    };
     for (text, words) in [
-        (relabelled(0), "line 57: \"stray 0\" where \"shortfall\" and its number are wanted"),
-        (relabelled(1), "the file ends where shortfall-a is wanted"),
+        (relabelled(0, "3"), "line 57: \"stray 0\" where \"shortfall\" and its number are wanted"),
+        (relabelled(1, "3"), "the file ends where shortfall-a is wanted"),
+        (relabelled(0, "4"), "line 9: \"total 5\" where \"borders\" and its number are wanted"),
+        (relabelled(1, "4"), "line 9: \"total 5\" where \"borders\" and its number are wanted"),
+    ] {
+        folder.write("x.site", &text);
+        for args in [&["show", "x.site"][..], &["add", "x.site", "k.csv"]] {
+            folder.bad(args, words);
+        }
+        assert_eq!(folder.read("x.site"), text, "left as it is");
+    }
+}
+
+/// The same site as program 0.6.0 kept it, in version 3: all but the set of borders.
+const VERSION_3: &str = include_str!("version-3.site");
+
+/// The file that has all of version 3's and the set.
+fn as_version_4(kept: &str) -> String {
+    kept.replacen("site 3\n", "site 4\n", 1).replacen("\nhysteresis 2\n", "\nhysteresis 2\nborders 0\n", 1)
+}
+
+/// Every command takes it for a site with the first set of borders, and says of it what it says of the same site in this version.
+#[test]
+fn a_file_of_version_3_is_read_as_the_first_set() {
+    let folder = with_k6("site-3-read");
+    let commands: [&[&str]; 9] = [
+        &["show", "x.site"],
+        &["show", "x.site", "--json"],
+        &["show", "x.site", "--csv"],
+        &["list", "k.csv", "--site", "x.site"],
+        &["list", "k.csv", "--site", "x.site", "--csv"],
+        &["explain", "k.csv", "--site", "x.site"],
+        &["check", "k.csv", "--site", "x.site"],
+        &["check", "k.csv", "--site", "x.site", "--json"],
+        &["report", "x.site", "k.csv", "-o", "-"],
+    ];
+    let made = |page: &str| page.lines().filter(|line| !line.contains("Made on")).collect::<String>();
+    for args in commands {
+        let [told, wanted] = [VERSION_3, &as_version_4(VERSION_3)].map(|kept| {
+            folder.write("x.site", kept);
+            let told = folder.accepted(args);
+            assert_eq!(folder.read("x.site"), kept, "{args:?}");
+            made(&told)
+        });
+        assert_eq!(told, wanted, "{args:?}");
+    }
+    folder.write("x.site", VERSION_3);
+    let table = folder.accepted(&["show", "x.site"]);
+    assert!(
+        table.contains("  borders        UNIPEDE\n") && table.contains("\n  at most 10 %           .        1  "),
+        "{table}"
+    );
+    folder.bad(&[&["new", "x.site"][..], &KNOWN].concat(), "x.site: there is such a file already");
+    assert_eq!((folder.read("x.site"), names(&folder)), (VERSION_3.into(), vec!["k.csv".to_string(), "x.site".into()]));
+}
+
+/// K6 once more: each count twice what it was, a version line of this version, and the set.
+#[test]
+fn an_add_makes_version_3_version_4() {
+    let folder = with_k6("site-3-add");
+    folder.write("x.site", VERSION_3);
+    let told = folder.accepted(&["add", "x.site", "k.csv", "--json"]);
+    let kept = folder.read("x.site");
+    let settings =
+        "burrcradle site 4\nn 8\nr 1000\nf 50\nsag 90\ninterruption 10\nswell 110\nhysteresis 2\nborders 0\n";
+    assert!(
+        kept.starts_with(&format!("{settings}total 10\nhealthy 4\ndisturbed 6\nunknown 0\ncell-0 0\ncell-1 2\n")),
+        "{kept}"
+    );
+    let sums = "shortfall 96000000\nshortfall-a 32000000\nshortfall-b 32000000\nshortfall-c 32000000\n";
+    assert!(kept.ends_with(&format!("\nunplaced 0\nsags 2\ninterruptions 2\nswells 0\n{sums}")), "{kept}");
+    assert_eq!((kept.lines().count(), kept.matches(" 0\n").count()), (61, 1 + 1 + 39 + 2), "and nothing else");
+    assert_eq!(told.matches("\"borders\":\"unipede\"").count(), 2, "what was added, and the table: {told}");
+    // As if it had been of this version all along.
+    folder.write("y.site", as_version_4(VERSION_3));
+    folder.accepted(&["add", "y.site", "k.csv"]);
+    assert_eq!(folder.read("y.site"), kept);
+    folder.accepted(&["add", "x.site", "k.csv"]);
+    assert_eq!(folder.counted("x.site", "cell-1"), 3, "and it goes on");
+}
+
+/// Whatever is wrong, a file of version 3 stays that, byte for byte.
+#[test]
+fn a_failed_add_leaves_version_3() {
+    let folder = with_k6("site-3-failed");
+    folder.write("bad.csv", csv(&k2()[..27]));
+    folder.write("x.site", VERSION_3);
+    folder.refused(&["add", "x.site", "bad.csv"], 4, 0);
+    folder.refused(&["add", "x.site", "k.csv", "bad.csv"], 4, 0);
+    folder.bad(&["add", "x.site", "k.csv", "none.csv"], "none.csv: ");
+    folder.bad(&["add", "x.site", "k.csv", "--borders", "unipede"], "--borders is no option of this command");
+    assert_eq!(folder.read("x.site"), VERSION_3);
+    // Damage is told as in any other file, and left.
+    let unsound = VERSION_3.replace("cell-1 1\n", "cell-1 2\n");
+    folder.write("x.site", &unsound);
+    folder.refused(&["add", "x.site", "k.csv"], 9, 0);
+    assert_eq!(folder.read("x.site"), unsound);
+    for (text, words) in [
+        (VERSION_3.replace("\nr 1000\n", "\nr 1e3\n"), "line 3: \"1e3\" is no whole number"),
+        (
+            VERSION_3.replace("\ntotal 5\n", "\nborders 0\ntotal 5\n"),
+            "line 9: \"borders 0\" where \"total\" and its number",
+        ),
+        (VERSION_3.replace("site 3\n", "site 4\n"), "line 9: \"total 5\" where \"borders\" and its number are wanted"),
+        (VERSION_3.replace("\nshortfall-c 16000000\n", "\n"), "the file ends where shortfall-c is wanted"),
+        (format!("{VERSION_3}\n"), "line 61: \"\" after the last number"),
+        (VERSION_3[..VERSION_3.len() - 1].into(), "line 60 is cut short"),
     ] {
         folder.write("x.site", &text);
         for args in [&["show", "x.site"][..], &["add", "x.site", "k.csv"]] {
@@ -200,11 +314,11 @@ fn an_earlier_version_is_told_by_its_line() {
 fn another_version_is_told_as_that() {
     let folder = with_k2("site-version");
     let good = folder.read("x.site");
-    for version in ["4", "99", "0", "12", "21", "01", "3 ", "2 ", "-1", "", "three"] {
-        let text = good.replacen("burrcradle site 3", &format!("burrcradle site {version}"), 1);
+    for version in ["5", "99", "0", "12", "21", "34", "01", "3 ", "03", "2 ", "-1", "", "four"] {
+        let text = good.replacen("burrcradle site 4", &format!("burrcradle site {version}"), 1);
         folder.write("x.site", &text);
         let words = format!(
-            "x.site: line 1: \"burrcradle site {version}\" where \"burrcradle site 3\" is wanted: no site's file, or of another \
+            "x.site: line 1: \"burrcradle site {version}\" where \"burrcradle site 4\" is wanted: no site's file, or of another \
              version\n"
         );
         for args in [&["show", "x.site"][..], &["add", "x.site", "k.csv"]] {

@@ -68,3 +68,61 @@ impl Grid {
         (cell as usize / self.columns.len(), cell as usize % self.columns.len())
     }
 }
+
+#[cfg(test)]
+mod tests {
+    use super::{named, of, FIRST, GRIDS};
+    use host::{Event, Refused, Settings};
+
+    const S: Settings = Settings { n: 8, r: 1_000, f: 50, sag: 95, interruption: 10, swell: 110, hysteresis: 2 };
+
+    /// The cell that the library gives a sag with this sum of squares that lasts so long. 1,000,000 S / (N x R x R) is S / 8, and
+    /// none of these lies on a half.
+    fn cell(set: u64, extreme: u64, halves: u64) -> u64 {
+        let retained = (extreme as f64 / 8.0).sqrt().round() as u64;
+        let sag: Event = [1, 1, 1 + halves, 3, extreme, retained, 0, 0, 0, 0, 0];
+        assert_eq!(host::reason(&S, set, &sag), 0, "{extreme} {halves}");
+        host::cell(&S, set, &sag)
+    }
+
+    /// The library makes tables for these sets and no others, and has as many cells for each.
+    #[test]
+    fn the_sets_are_the_librarys() {
+        for set in 0..GRIDS.len() as u64 {
+            assert_eq!(host::fresh(&S, set).0, Ok(()));
+            assert_eq!(host::cell(&S, set, &[0; 11]), of(set).cells() as u64, "one above the last: no event");
+            assert_eq!(named(of(set).word), Some(set));
+        }
+        assert_eq!(host::fresh(&S, GRIDS.len() as u64).0, Err(Refused { number: 1, place: 8 }));
+        assert_eq!((FIRST, named("UNIPEDE"), named("")), (0, None, None));
+    }
+
+    /// A voltage on a row's border is in the row that is named for it, and one unit of S above it in the next.
+    #[test]
+    fn rows_are_named_for_their_borders() {
+        for (set, grid) in (0..).zip(&GRIDS) {
+            for (at, percent) in grid.percents.iter().enumerate() {
+                let (on, row) = (800 * percent * percent, |extreme| grid.place(cell(set, extreme, 1)).0);
+                assert_eq!((row(on), row(on + 1)), (at, at + 1), "{set}: {percent}");
+                assert!(grid.row(at).ends_with(&format!(" {percent} %")), "{}", grid.row(at));
+                assert!(grid.row(at + 1).contains(&format!("{percent} ")), "{}", grid.row(at + 1));
+            }
+            assert_eq!((grid.rows(), grid.row(grid.rows() - 1).starts_with("above ")), (grid.percents.len() + 1, true));
+        }
+    }
+
+    /// Each column begins at the duration that its name says, in half-cycles at 50 Hz, and every column is reached.
+    #[test]
+    fn columns_are_named_for_their_borders() {
+        let begin: [&[u64]; 2] = [&[1, 2, 10, 50, 100, 300, 2_000, 6_000], &[1, 2, 20, 50, 500]];
+        for ((set, grid), begin) in (0..).zip(&GRIDS).zip(begin) {
+            assert_eq!(grid.columns.len(), begin.len());
+            for (at, first) in begin.iter().enumerate() {
+                let column = |halves: u64| grid.place(cell(set, 0, halves)).1;
+                assert_eq!(column(*first), at, "{set}: {first}");
+                assert!(at == 0 || column(first - 1) == at - 1, "{set}: before {first}");
+            }
+            assert_eq!(grid.place(cell(set, 0, 99_999)).1, begin.len() - 1);
+        }
+    }
+}
