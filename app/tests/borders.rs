@@ -1,6 +1,6 @@
 //! The other table: a site is made for one of two sets of borders and keeps it, and every answer that has a cell names its set.
 mod common;
-use common::{blocks, csv, k2, listed, rows, Folder, KNOWN};
+use common::{blocks, csv, k2, listed, rows, says, Folder, KNOWN};
 
 /// A folder with K2, and a site for the borders of IEC 61000-4-11 that holds it.
 fn with_k2(name: &str) -> Folder {
@@ -9,12 +9,6 @@ fn with_k2(name: &str) -> Folder {
     folder.accepted(&[&["new", "x.site", "--borders", "4-11"][..], &KNOWN].concat());
     folder.accepted(&["add", "x.site", "k.csv"]);
     folder
-}
-
-fn says(told: &str, sentences: &[&str]) {
-    for words in sentences {
-        assert!(told.contains(words), "{words}: {told}");
-    }
 }
 
 /// The file has the set's number after the settings, and an `add` keeps it.
@@ -317,20 +311,32 @@ fn the_page_draws_the_grid_of_the_set() {
         says(&page, &[&format!(">{name}</text>")]);
     }
     assert!(!page.contains("UNIPEDE") && !page.contains("85 %"), "nothing of the other set");
+}
+
+/// The same by the first set, which is there without a word.
+#[test]
+fn the_page_of_a_site_without_a_word() {
+    let folder = with_k2("borders-page-first");
     folder.site("first.site");
     folder.accepted(&["report", "first.site", "k.csv", "-o", "first.html"]);
-    let first = folder.read("first.html");
-    assert_eq!(counts(&first).len(), 40);
+    let page = folder.read("first.html");
+    assert_eq!(counts(&page), ["0"; 40]);
     says(
-        &first,
+        &page,
         &[
             "hysteresis 2 %; borders UNIPEDE</p>",
+            "columns by duration, with the borders of UNIPEDE.",
             ">70 to 85 %</text>",
             "<td>cell 17<i>row 2 (40 to 70 %), column 1 (&lt; 0.1 s)</i>",
         ],
     );
-    assert!(!first.contains("4-11"), "nothing of the other set");
-    // Where the recordings can't all be in the table, the cell is told by the set too.
+    assert!(!page.contains("4-11"), "nothing of the other set");
+}
+
+/// Where the recordings can't all be in the table, the cell is told by the set too.
+#[test]
+fn the_page_counts_by_the_set() {
+    let folder = with_k2("borders-page-cells");
     folder.write("deeper.csv", csv(&blocks(&[1000, 1000, 300, 300, 1000, 1000])));
     folder.accepted(&["report", "x.site", "deeper.csv", "-o", "x.html"]);
     says(&folder.read("x.html"), &["They are not all in it: sags in cell 6, 0 in the table and 1 in them."]);

@@ -4,7 +4,7 @@
 //! The numbers are worked out by hand. N x R x R is 8,000,000, so 800,000 make a millisecond at 50 Hz, and a channel's sum counts
 //! where it is below 6,480,000, the 90 percent, or 7,220,000, the 95 percent.
 mod common;
-use common::{blocks, csv, dip, levels, rows, Folder, KNOWN, MISSING};
+use common::{blocks, csv, dip, levels, rows, says, Folder, KNOWN, MISSING};
 
 /// What a command says of a recording under the settings of the known answers, and more.
 fn said(folder: &Folder, command: &str, samples: &[i32], more: &[&str]) -> String {
@@ -15,12 +15,6 @@ fn said(folder: &Folder, command: &str, samples: &[i32], more: &[&str]) -> Strin
 /// The sentences of `explain`, each on one line.
 fn explained(folder: &Folder, samples: &[i32], more: &[&str]) -> String {
     said(folder, "explain", samples, more).replace("\n             ", " ")
-}
-
-fn says(told: &str, sentences: &[&str]) {
-    for words in sentences {
-        assert!(told.contains(words), "{words}: {told}");
-    }
 }
 
 /// Three channels that go to 500, 600 and 880.

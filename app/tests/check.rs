@@ -1,6 +1,6 @@
 //! `check`: what is wrong with the settings or with a channel is told before anything is added, and `add` warns.
 mod common;
-use common::{blocks, csv, k2, raw, rows, Folder, KNOWN, MISSING};
+use common::{blocks, csv, k2, raw, rows, says, Folder, KNOWN, MISSING};
 use std::f64::consts::TAU;
 
 /// Forty half cycles of three sines: samples per cycle, and the peak of each channel.
@@ -25,12 +25,6 @@ fn checked(folder: &Folder, samples: &[i32], settings: &[&str]) -> String {
     let ran = folder.run(&[&["check", "k.i32"][..], settings].concat());
     assert!(ran.status == 0 && ran.err.is_empty(), "{ran:?}");
     ran.out.split_whitespace().collect::<Vec<_>>().join(" ")
-}
-
-fn says(told: &str, sentences: &[&str]) {
-    for words in sentences {
-        assert!(told.contains(words), "{words}: {told}");
-    }
 }
 
 #[test]

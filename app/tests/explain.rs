@@ -1,6 +1,6 @@
 //! `explain`: launch, peak, landing and score of each event in words that hold of the data.
 mod common;
-use common::{blocks, csv, Folder, KNOWN, MISSING};
+use common::{blocks, csv, says, Folder, KNOWN, MISSING};
 use std::f64::consts::TAU;
 
 /// What `explain` says of a recording under the settings of the known answers, each sentence on one line.
@@ -8,12 +8,6 @@ fn explained(name: &str, samples: &[i32]) -> String {
     let folder = Folder::new(name);
     folder.write("k.csv", csv(samples));
     folder.accepted(&[&["explain", "k.csv"][..], &KNOWN].concat()).replace("\n             ", " ")
-}
-
-fn says(told: &str, sentences: &[&str]) {
-    for words in sentences {
-        assert!(told.contains(words), "{words}: {told}");
-    }
 }
 
 /// Channel a stands at these levels, b and c at 1000.

@@ -153,6 +153,13 @@ pub fn rows(csv: &str) -> Vec<Row> {
     lines.map(|line| Row { head: head.clone(), fields: fields(line) }).collect()
 }
 
+/// Each of the sentences stands in what was told.
+pub fn says(told: &str, sentences: &[&str]) {
+    for words in sentences {
+        assert!(told.contains(words), "{words}: {told}");
+    }
+}
+
 /// Blocks of four equal samples, the channels equal: half a cycle each at N 8.
 pub fn blocks(levels: &[i32]) -> Vec<i32> {
     levels.iter().flat_map(|level| [*level; 12]).collect()
