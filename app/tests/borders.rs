@@ -294,9 +294,9 @@ fn the_page_draws_the_grid_of_the_set() {
     says(
         &page,
         &[
-            "hysteresis 2 %; borders IEC 61000-4-11</p>",
+            "hysteresis 2 %; borders <span class=\"whole\">IEC 61000-4-11</span></p>",
             "aria-label=\"sags by depth and duration, borders IEC 61000-4-11\"",
-            "columns by duration, with the borders of IEC 61000-4-11.",
+            "columns by duration, with the borders of <span class=\"whole\">IEC 61000-4-11</span>.",
             "<td>cell 11<i>row 2 (40 to 70 %), column 1 (&lt; 200 ms)</i>",
             "<td>cell 20<i>row 4 (above 80 %), column 0 (&lt; 1 cycle)</i>",
         ],
@@ -324,8 +324,8 @@ fn the_page_of_a_site_without_a_word() {
     says(
         &page,
         &[
-            "hysteresis 2 %; borders UNIPEDE</p>",
-            "columns by duration, with the borders of UNIPEDE.",
+            "hysteresis 2 %; borders <span class=\"whole\">UNIPEDE</span></p>",
+            "columns by duration, with the borders of <span class=\"whole\">UNIPEDE</span>.",
             ">70 to 85 %</text>",
             "<td>cell 17<i>row 2 (40 to 70 %), column 1 (&lt; 0.1 s)</i>",
         ],

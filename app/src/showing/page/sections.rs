@@ -28,8 +28,9 @@ pub fn page(contents: &Contents) -> String {
     let (s, name, version) = (table::settings(contents.table), esc(contents.name), env!("CARGO_PKG_VERSION"));
     let mut body = format!(
         "<header><p class=\"over\">Burrcradle report: voltage sags, interruptions and swells</p><h1>{name}</h1>\
-         <p class=\"sub\">{}</p><p class=\"sub\">Made on {} by burrcradle {version}.</p></header>\n",
-        esc(&format!("{}; borders {}", words::settings(&s), table::grid(contents.table).title)),
+         <p class=\"sub\">{}; borders {}</p><p class=\"sub\">Made on {} by burrcradle {version}.</p></header>\n",
+        esc(&words::settings(&s)),
+        title(contents),
         esc(&contents.made)
     );
     body += &site_section(&s, contents);
@@ -85,9 +86,14 @@ fn site_section(s: &Settings, contents: &Contents) -> String {
         by_channel(s, &c),
         drawn::bar(contents.table),
         drawn::heat(contents.table),
-        table::grid(contents.table).title,
+        title(contents),
         c.unplaced
     )
+}
+
+/// The name of the table's borders, whole: on a phone its hyphens would break it.
+fn title(contents: &Contents) -> String {
+    format!("<span class=\"whole\">{}</span>", esc(table::grid(contents.table).title))
 }
 
 /// What each channel lost, in the colour of its curve.
