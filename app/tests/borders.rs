@@ -260,20 +260,6 @@ fn explain_goes_by_the_set() {
     );
 }
 
-/// A number and its unit stay on one line, milliseconds too. Numbers of all lengths move the break to every place.
-#[test]
-fn a_time_is_not_torn_from_its_unit() {
-    let folder = with_k2("borders-wrapped");
-    for halves in (3..60).chain([499, 500]) {
-        folder.write("k.csv", csv(&lasting(halves)));
-        let told = folder.accepted(&["explain", "k.csv", "--site", "x.site"]);
-        let first = |line: &str| {
-            line.split_whitespace().next().unwrap_or("").trim_end_matches([')', '.', ',', ';']).to_string()
-        };
-        assert!(!told.lines().any(|line| ["ms", "s", "%"].contains(&first(line).as_str())), "{told}");
-    }
-}
-
 /// The counts of a page's cells, in their order.
 fn counts(page: &str) -> Vec<&str> {
     let cells = page.split("class=\"count heat").skip(1);

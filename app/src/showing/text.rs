@@ -247,3 +247,18 @@ pub fn wrapped(paragraph: &str, indent: &str) -> String {
     }
     lines.join("\n")
 }
+
+#[cfg(test)]
+mod tests {
+    use super::wrapped;
+
+    /// Whatever stands before it, a line does not end between a number and its unit.
+    #[test]
+    fn a_number_stays_with_its_unit() {
+        for (before, unit) in (1..100).flat_map(|before| ["s", "s).", "ms", "ms).", "%,"].map(|unit| (before, unit))) {
+            let number = format!("(200 {unit}");
+            let told = wrapped(&format!("{} {number} of it", "x".repeat(before)), "");
+            assert!(told.contains(&number), "{told}");
+        }
+    }
+}
