@@ -23,7 +23,7 @@ pub fn names() -> Vec<String> {
     settings.chain(halves).chain(cells).chain(events).chain(shortfalls).collect()
 }
 
-/// The table's numbers by name, but for its set and the cells that it has not.
+/// The table's numbers by name, but for its set and the cells that its grid lacks.
 pub fn named(table: &Table) -> impl Iterator<Item = (String, u64)> {
     let lacks = CELLS.start + cells(table).len()..CELLS.end;
     let told = move |at: usize| at != SET && !lacks.contains(&at);
