@@ -4,8 +4,8 @@ use Prim.Native.Nat.{_-_, _<_}
 use mathlib.Core.Path.{_≡_}
 use mathlib.Core.Bool.{true}
 use native.Mathlib.Omega.{arith}
-use Rattle.rules.proofs.Booleans.{both}
 use Rattle.rules.specs.Borders.{bordersOf}
+use Rattle.rules.proofs.Booleans.{both}
 use Rattle.rules.proofs.Borders.{cell-high, set-cells}
 use Rattle.ledger.proofs.place.Statement.{statement}
 use Rattle.ledger.proofs.place.Tie as tie
