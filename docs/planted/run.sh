@@ -10,16 +10,22 @@ root=$(cd "$here/../.." && pwd)
 work=$(mktemp -d)
 trap 'rm -rf "$work"' EXIT
 
-# a scratch crate `rules`, with its proofs or without
-scratch() { # NAME
-    mkdir -p "$work/$1/crates"
-    cp -R "$root/crates/rules" "$work/$1/crates/"
-    rm -rf "$work/$1/crates/rules/must-fail"
+# the parts of a scratch crate `rules`: with its laws, or without them and with the cases, which are a crate of their own in the tree
+lay() { # NAME
+    local crate=$work/$1/crates/rules
+    rm -rf "$crate"
+    mkdir -p "$crate"
+    cp -R "$root/crates/rules/src" "$root/crates/rules/specs" "$crate/"
+    if [ "$1" = laws ]; then
+        cp -R "$root/crates/rules/proofs" "$crate/"
+    else
+        sed 's/Rattle\.rules\.specs/Rattle.rules.specs/' "$root/crates/answers/specs/Cases.antt" >"$crate/specs/Cases.antt"
+        echo 'pub mod Cases' >>"$crate/specs/Lib.antt"
+    fi
     echo rules: >"$work/$1/crates.txt"
 }
-scratch answers
-scratch laws
-rm -rf "$work/answers/crates/rules/proofs"
+lay answers
+lay laws
 
 # applies an edit, in the form of a must-fail edit, to a scratch crate
 apply() { # EDIT CRATE
@@ -45,9 +51,7 @@ refusers() { # EDIT NAME
     local crate=$work/$2/crates/rules
     apply "$1" "$crate"
     (cd "$work/$2" && rt dev rules) >"$work/$2.log" 2>&1 || true
-    rm -rf "$crate/specs" "$crate/proofs"
-    cp -R "$root/crates/rules/specs" "$crate/"
-    [ "$2" = answers ] || cp -R "$root/crates/rules/proofs" "$crate/"
+    lay "$2"
     if grep -q '^logic=not-proved' "$work/$2.log"; then
         { grep -vE 'was not admitted|is not admitted' "$work/$2.log" || true; } |
             sed -nE 's/^[^ ]*\/(specs|proofs)\/([A-Za-z]+)\.antt:[0-9]+:[0-9]+: error: `([^`]+)`.*/\2 \3/p' | sort -u | tr '\n' ';'

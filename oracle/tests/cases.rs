@@ -1,4 +1,4 @@
-//! The second table of cases, crates/rules/specs/Cases.antt: the file is what the second program writes, its linear and its
+//! The second table of cases, crates/answers/specs/Cases.antt: the file is what the second program writes, its linear and its
 //! swift form and the proved library give the same answers, and the cases reach every corner that can be told from an answer, of
 //! each set of borders.
 use oracle::borders::SETS;

@@ -1,6 +1,6 @@
 -- The known answers: one table of cases, one statement. K1 to K12, each a recording, by both sets of borders; and sags on both sides of
 -- the curve's last border, on both sides of a retained value's half, with shortfalls of the channels that make up the whole or don't,
--- and by a set of borders that is known or not, each by its event words.
+-- and by a set of borders that is known or not, each by its event words; and what is turned away, one of each number.
 use Prim.Native.Nat.{ℕ, _+_, _*_}
 use mathlib.Core.Path.{_≡_, refl}
 use mathlib.Core.List.{List, [], _∷_, _++_, map}
@@ -14,13 +14,16 @@ use Rattle.rules.specs.EventList.{eventFrom, eventAt, eventsOf}
 use Rattle.rules.specs.Borders.{knownSet, bordersOf, rowOf, columnOf}
 use Rattle.rules.specs.Scores.{inBounds, sagGood, isEvent, reasonOf, reasonBy, scoring, scoringBy, millisOf}
 use Rattle.rules.specs.Site.{cellOf, isHealthy, isDisturbed, isUnknown, isPlaced, isUnplaced, sagCell, sagSum, sagShort, grown, isUnsound}
-use Rattle.rules.specs.Refusals.{recordingCheck, settingsCheck, setCheck, roomCheck, listCheck, listed, written, freshened, soundCheck, fullCheck, addCheck, added}
+use Rattle.rules.specs.Refusals.{numberOf, placeIn, recordingCheck, settingsCheck, setCheck, roomCheck, listCheck, listed, written, freshened, soundCheck, fullCheck, addCheck, added}
 use Rattle.rules.specs.declared.Settings.{Settings}
 use Rattle.rules.specs.declared.Sums.{Sums}
 use Rattle.rules.specs.declared.Event.{Event}
+use Rattle.rules.specs.declared.Table.{Table}
 use Rattle.rules.specs.declared.Scoring.{Scoring}
 use Rattle.rules.specs.declared.Scoring.the-variants.{Scored, Unscored}
-use Rattle.rules.specs.declared.Taken.the-variants.{Accepted}
+use Rattle.rules.specs.declared.Refusal.the-variants.{Long}
+use Rattle.rules.specs.declared.Taken.{Taken}
+use Rattle.rules.specs.declared.Taken.the-variants.{Accepted, Refused}
 use Rattle.rules.specs.declared.Listed.{Listed}
 use Rattle.rules.specs.declared.Listed.the-variants.{Events}
 use Rattle.rules.specs.declared.Site.{Site as Handed}
@@ -382,6 +385,54 @@ judged =
     ∷ record { under = settings; set = 2; event = shared (abc 35999999 0 0); score = Unscored 6; cell = 40 }
     ∷ []
 
-known-answers : (map (λ (c : Case). answersTo (c .given)) cases ≡ cases) × (map (λ (c : Judged). judgedOf (c .under) (c .set) (c .event)) judged ≡ judged)
-unfolding answersTo cases judgedOf judged firstBad badSetting settingsGood halvesOf anyMissing squares sumsAt halfAt full carries inRun inEvent starts endOf seenOf extremeOf earliest climb retainedOf shortsOf sixSums typeOf eventFrom eventAt eventsOf inBounds sagGood isEvent reasonOf reasonBy scoring scoringBy knownSet bordersOf rowOf columnOf cellOf isHealthy isDisturbed isUnknown isPlaced isUnplaced sagCell sagSum sagShort grown isUnsound recordingCheck settingsCheck setCheck roomCheck listCheck listed written freshened soundCheck fullCheck addCheck added div ofInt ofBits
-known-answers = (refl, refl)
+-- a refusal's number and its place
+abbrev told : Taken → List ℕ
+told Accepted = []
+told (Refused r) = numberOf r ∷ placeIn r ∷ []
+
+-- a table that has room for four half-cycles more
+abbrev nearlyFull : Table
+nearlyFull =
+    record {
+      settings = settings;
+      set = 0;
+      total = 3999996;
+      healthy = 3999996;
+      disturbed = 0;
+      unknown = 0;
+      cells = none;
+      unplaced = 0;
+      sags = 0;
+      interruptions = 0;
+      swells = 0;
+      shortfall = 0;
+      parts = alike 0;
+    }
+
+-- what is turned away, one of each number
+turned : List (List ℕ)
+turned =
+    -- 1: f is not 50 or 60; the set of borders is not known
+    told (listCheck hundred (dip 500) 23)
+    ∷ told (freshened settings 2 .answer)
+    -- 2: five samples; 3: none; 4: three blocks and one sample of each channel
+    ∷ told (listCheck settings (replicate 5 (pos 1000)) 23)
+    ∷ told (listCheck settings [] 23)
+    ∷ told (listCheck settings (blocks (replicate 3 1000) ++ replicate 3 (pos 1000)) 23)
+    -- 5, which no short recording has; 6: sample 20 is 100,001; 7: K2 with room for ten numbers
+    ∷ told (Refused Long)
+    ∷ told (listCheck settings (set (dip 500) 20 (pos 100001)) 23)
+    ∷ told (listCheck settings (dip 500) 10)
+    -- 8: K2 has five half-cycles; 9: the zeros of a refused making
+    ∷ told (added nearlyFull (dip 500) .answer)
+    ∷ told (added (freshened hundred 0 .table) (dip 500) .answer)
+    ∷ []
+
+places : List (List ℕ)
+places =
+    (1 ∷ 3 ∷ []) ∷ (1 ∷ 8 ∷ []) ∷ (2 ∷ 0 ∷ []) ∷ (3 ∷ 0 ∷ []) ∷ (4 ∷ 0 ∷ []) ∷ (5 ∷ 0 ∷ []) ∷ (6 ∷ 20 ∷ []) ∷ (7 ∷ 1 ∷ []) ∷ (8 ∷ 4 ∷ [])
+    ∷ (9 ∷ 0 ∷ []) ∷ []
+
+known-answers : (map (λ (c : Case). answersTo (c .given)) cases ≡ cases) × (map (λ (c : Judged). judgedOf (c .under) (c .set) (c .event)) judged ≡ judged) × (turned ≡ places)
+unfolding answersTo cases judgedOf judged turned places firstBad badSetting settingsGood halvesOf anyMissing squares sumsAt halfAt full carries inRun inEvent starts endOf seenOf extremeOf earliest climb retainedOf shortsOf sixSums typeOf eventFrom eventAt eventsOf inBounds sagGood isEvent reasonOf reasonBy scoring scoringBy knownSet bordersOf rowOf columnOf cellOf isHealthy isDisturbed isUnknown isPlaced isUnplaced sagCell sagSum sagShort grown isUnsound recordingCheck settingsCheck setCheck roomCheck listCheck listed written freshened soundCheck fullCheck addCheck added div ofInt ofBits
+known-answers = (refl, refl, refl)

@@ -11,4 +11,3 @@ pub mod Refusals
 pub mod Demands
 pub mod Meanings
 pub mod Known
-pub mod Cases

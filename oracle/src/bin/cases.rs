@@ -1,4 +1,4 @@
-//! Writes `crates/rules/specs/Cases.antt`, the second table of cases with the second program's answers, or the same to a file
+//! Writes `crates/answers/specs/Cases.antt`, the second table of cases with the second program's answers, or the same to a file
 //! that is named.
 use oracle::cases::{text, FILE, SECOND};
 

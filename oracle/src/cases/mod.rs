@@ -1,5 +1,5 @@
 //! The second table of cases, C1, C2, ..: questions chosen by hand for what each of them pins, and any program's answers to
-//! them. `text` writes both as `crates/rules/specs/Cases.antt`, where the definitions are proved to give the second
+//! them. `text` writes both as `crates/answers/specs/Cases.antt`, where the definitions are proved to give the second
 //! program's answers.
 mod borders;
 mod channels;

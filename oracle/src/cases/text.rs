@@ -1,4 +1,4 @@
-//! The text of `crates/rules/specs/Cases.antt`: the questions, and a program's answers to them.
+//! The text of `crates/answers/specs/Cases.antt`: the questions, and a program's answers to them.
 use super::tables::{healthy_only, various, various_by, vast};
 use super::{sections, Answer, Asked, Case, Program, Section, HIGH, HOUSE, SHARP, TEN, WIDE};
 use crate::borders::{self, MOST};
@@ -6,7 +6,7 @@ use crate::site::{at, settings as settings_of};
 use crate::{Refused, Settings, Table, WORDS};
 
 /// Where the file stands in the repository.
-pub const FILE: &str = concat!(env!("CARGO_MANIFEST_DIR"), "/../crates/rules/specs/Cases.antt");
+pub const FILE: &str = concat!(env!("CARGO_MANIFEST_DIR"), "/../crates/answers/specs/Cases.antt");
 
 /// A line of a case is no longer, where there is a joint to cut it at.
 const WIDTH: usize = 130;

@@ -1,0 +1,2 @@
+-- What the rules answer to questions of our own.
+pub mod Cases
