@@ -1,2 +1,2 @@
 -- What the contracts cite.
-pub mod Marks
+pub mod Lists

@@ -5,14 +5,27 @@ use rules::Settings;
 use rules::Taken;
 ghost use mathlib.Core.Path.{_≡_};
 ghost use mathlib.Core.Bool.{true};
-ghost use Prim.Native.Nat.{_*_, _≤_, _<_};
-ghost use lib.Dec.{ltb};
-ghost use lib.ListN.{length};
+ghost use Prim.Native.Nat.{suc, _+_, _-_, _*_, _≤_};
+ghost use lib.Dec.{leb, ltb};
+ghost use lib.ListN.{length, getD};
 ghost use Rattle.rules.specs.Recorder.{settingsGood};
-ghost use Rattle.rules.specs.Borders.{knownSet, listsOf, bordersOf, placeOf, cellAt};
+ghost use Rattle.rules.specs.Borders.{knownSet, bordersOf, placeOf, rowOf, columnOf, cellAt};
 ghost use Rattle.rules.specs.Site.{notScored};
 ghost use Rattle.rules.specs.Refusals.{setCheck};
-ghost use Rattle.borders.specs.Marks.{marksOf, cellAmong};
+ghost use Rattle.borders.specs.Lists.{allBelow, cut, fifthsAt};
+
+// The borders of all sets, one set after another: of rows in percent of R, of columns in fifths of a half-cycle, so many of them and so
+// many times f.
+const ROWS: [u64; 8] = [10, 40, 70, 85, 10, 40, 70, 80];
+
+const FIFTHS: [u64; 11] = [10, 0, 0, 0, 0, 0, 0, 10, 0, 0, 0];
+
+const TIMES: [u64; 11] = [0, 1, 5, 10, 30, 200, 600, 0, 2, 5, 50];
+
+// Where the borders of each set begin, and those of the last end.
+const ROWS_FROM: [usize; 3] = [0, 4, 8];
+
+const COLUMNS_FROM: [usize; 3] = [0, 7, 11];
 
 // Whether there is such a set.
 pub fn known_set(set: u64) -> bool
@@ -31,64 +44,94 @@ pub fn check_set(set: u64) -> Taken
     Taken::Refused(Refusal::Setting(8))
 }
 
+// How many rows, or columns, a set has: one more than borders, which begin where `from` says.
+fn count_from(from: [usize; 3], set: u64) -> u64
+    requires { ⌜ (knownSet set ≡ true) × (getD from set 0 ≤ getD from (set + 1) 0) × (getD from (set + 1) 0 ≤ 40) ⌝ }
+    ensures { λ r. ⌜ r ≡ suc (getD from (set + 1) 0 - getD from set 0) ⌝ }
+{
+    let i = set as usize;
+    (from[i + 1] - from[i]) as u64 + 1
+}
+
 // One above the last cell of a set, whatever the settings; 40 where there is no such set.
 pub fn not_scored(set: u64) -> u64
     ensures { λ r. ⌜ ((s : Settings) → r ≡ notScored s set) ⌝ }
 {
-    if set == 1 {
-        return 25;
+    if !known_set(set) {
+        return 40;
     }
-    40
+    count_from(ROWS_FROM, set) * count_from(COLUMNS_FROM, set)
 }
 
-// How many borders x is above, before the first that it is not above.
-fn place(borders: &[u64], x: u64) -> u64
-    ensures { λ r. ⌜ r ≡ placeOf (λ b. ltb b x) (now (borders .entry)) ⌝ }
+// The place of x among borders in percent, with m for N x R x R: on a border it is not above it.
+fn row_among(rows: &[u64], m: u64, x: u64) -> u64
+    requires { ⌜ (allBelow 101 (now rows) ≡ true) × (m ≤ 1280000000000) ⌝ }
+    ensures { λ r. ⌜ r ≡ placeOf (λ p. ltb (p * p * m) x) (now (rows .entry)) ⌝ }
 {
     let mut i = 0;
-    while i < borders.len() && borders[i] < x {
+    while i < rows.len() && rows[i] * rows[i] * m < x {
         i += 1;
     }
     i as u64
 }
 
-// The cell by any borders of rows, for x, and of columns, for y: number of columns x row + column.
-fn cell_among(rows: &[u64], columns: &[u64], x: u64, y: u64) -> u64
-    requires { ⌜ (length (now rows) < 40) × (length (now columns) < 40) ⌝ }
-    ensures { λ r. ⌜ r ≡ cellAmong (now (rows .entry)) (now (columns .entry)) x y ⌝ }
+// The place of x among borders in fifths of a half-cycle: on a border it has passed it.
+fn column_among(fifths: &[u64], times: &[u64], f: u64, x: u64) -> u64
+    requires { ⌜ (length (now fifths) ≡ length (now times)) × (allBelow 1001 (now fifths) ≡ true) × (allBelow 1001 (now times) ≡ true) × (f ≤ 60) ⌝ }
+    ensures { λ r. ⌜ r ≡ placeOf (λ b. leb b x) (fifthsAt f (now (fifths .entry)) (now (times .entry))) ⌝ }
 {
-    let row = place(rows, x);
-    let column = place(columns, y);
-    (columns.len() as u64 + 1) * row + column
-}
-
-// The cell by the borders of a set: rows by percent squared, times m for N x R x R, columns by fifths of a half-cycle.
-fn cell_by(set: u64, m: u64, f: u64, x: u64, y: u64) -> u64
-    requires { ⌜ (knownSet set ≡ true) × (m ≤ 1280000000000) × (f ≤ 60) ⌝ }
-    ensures { λ r. ⌜ r ≡ cellAmong (marksOf m (listsOf set f .rows)) (listsOf set f .columns) x y ⌝ }
-{
-    if set == 1 {
-        let rows = [100 * m, 1600 * m, 4900 * m, 6400 * m];
-        let columns = [5 * 2, 2 * f, 5 * f, 5 * (10 * f)];
-        return cell_among(&rows, &columns, x, y);
+    let mut i = 0;
+    while i < fifths.len() && fifths[i] + times[i] * f <= x {
+        i += 1;
     }
-    let rows = [100 * m, 1600 * m, 4900 * m, 7225 * m];
-    let columns = [
-        5 * 2,
-        f,
-        5 * f,
-        5 * (2 * f),
-        5 * (6 * f),
-        5 * (40 * f),
-        5 * (120 * f),
-    ];
-    cell_among(&rows, &columns, x, y)
+    i as u64
 }
 
-// The cell of an extreme and a duration of h half-cycles: on a border an extreme is not above it, and a duration has passed it.
+// The same among those from a up to and without e.
+fn row_within(rows: &[u64], a: usize, e: usize, m: u64, x: u64) -> u64
+    requires { ⌜ (a ≤ e) × (e ≤ length (now rows)) × (allBelow 101 (now rows) ≡ true) × (m ≤ 1280000000000) ⌝ }
+    ensures { λ r. ⌜ r ≡ placeOf (λ p. ltb (p * p * m) x) (cut a e (now (rows .entry))) ⌝ }
+{
+    row_among(&rows[a..e], m, x)
+}
+
+fn column_within(fifths: &[u64], times: &[u64], a: usize, e: usize, f: u64, x: u64) -> u64
+    requires { ⌜ (a ≤ e) × (e ≤ length (now fifths)) × (length (now fifths) ≡ length (now times)) × (allBelow 1001 (now fifths) ≡ true) × (allBelow 1001 (now times) ≡ true) × (f ≤ 60) ⌝ }
+    ensures { λ r. ⌜ r ≡ placeOf (λ b. leb b x) (fifthsAt f (cut a e (now (fifths .entry))) (cut a e (now (times .entry)))) ⌝ }
+{
+    column_among(&fifths[a..e], &times[a..e], f, x)
+}
+
+// The row of an extreme.
+fn row(s: Settings, set: u64, extreme: u64) -> u64
+    requires { ⌜ (settingsGood s ≡ true) × (knownSet set ≡ true) × (extreme ≤ s .n * 10000000000) ⌝ }
+    ensures { λ r. ⌜ r ≡ rowOf s (bordersOf s set) extreme ⌝ }
+{
+    let m = full_of(s);
+    let rows = ROWS;
+    let from = ROWS_FROM;
+    let i = set as usize;
+    row_within(&rows, from[i], from[i + 1], m, 10000 * extreme)
+}
+
+// The column of a duration of h half-cycles.
+fn column(s: Settings, set: u64, h: u64) -> u64
+    requires { ⌜ (settingsGood s ≡ true) × (knownSet set ≡ true) × (h ≤ 100000) ⌝ }
+    ensures { λ r. ⌜ r ≡ columnOf (bordersOf s set) h ⌝ }
+{
+    let fifths = FIFTHS;
+    let times = TIMES;
+    let from = COLUMNS_FROM;
+    let i = set as usize;
+    column_within(&fifths, &times, from[i], from[i + 1], s.f, 5 * h)
+}
+
+// The cell of an extreme and a duration of h half-cycles: number of columns x row + column.
 pub fn cell_at(s: Settings, set: u64, extreme: u64, h: u64) -> u64
     requires { ⌜ (settingsGood s ≡ true) × (knownSet set ≡ true) × (extreme ≤ s .n * 10000000000) × (h ≤ 100000) ⌝ }
     ensures { λ r. ⌜ r ≡ cellAt s (bordersOf s set) extreme h ⌝ }
 {
-    cell_by(set, full_of(s), s.f, 10000 * extreme, 5 * h + 1)
+    let row = row(s, set, extreme);
+    let column = column(s, set, h);
+    count_from(COLUMNS_FROM, set) * row + column
 }

@@ -12,7 +12,7 @@ use lib.Dec.{leb}
 use lib.ListN.{length, getD}
 use Rattle.rules.specs.Recorder.{settingsGood}
 use Rattle.rules.specs.Halves.{full, atMost}
-use Rattle.rules.specs.Borders.{Borders, knownSet, bordersOf, placeOf, rowOf, columnOf}
+use Rattle.rules.specs.Borders.{Borders, sets, knownSet, bordersOf, placeOf, rowOf, columnOf}
 use Rattle.rules.specs.Scores.{curveOf}
 use Rattle.rules.specs.Demands.{rising, Falling}
 use Rattle.rules.specs.Meanings.{percent, rowPercent, columnBorders, Against}
@@ -164,18 +164,22 @@ column-border s (suc zero) h (suc (suc (suc (suc i)))) l u = absurd (omega arith
 column-border s (suc (suc set)) h i l u = absurd (omega arith)
 
 module _ (s : Settings) (g : settingsGood s ≡ true) (set : ℕ) (two : set < 2) where
+  known : knownSet set ≡ true
+  unfolding knownSet
+  known = lt-ltb set (length sets) (omega arith)
+
   -- THE LAW: an extreme lies in row i or a deeper one exactly if V is at most 10, 40, 70, and 85 percent, in set 1 80
   pub set-row-is : (S i : ℕ) → i < 4 → (rowOf s (bordersOf s set) S ≤ i) ↔ (10000 * S ≤ percent s (rowPercent set i))
   set-row-is S i l =
       rw (← (row-border s set i two l))
-      (row-is s (bordersOf s set) (set-rows-rise s g set (set-is-known set .1 two)) S i (omega (arith, set-sizes s set two .0)))
+      (row-is s (bordersOf s set) (set-rows-rise s g set known) S i (omega (arith, set-sizes s set two .0)))
 
   -- THE LAW: a duration lies in column i or a shorter one exactly if, in set 0, h is below 2; 5h < f (0.1 s); h < f (0.5 s); h < 2f;
   -- h < 6f; h < 40f; h < 120f; in set 1, h is below 2; 5h < 2f (200 ms); h < f (500 ms); h < 10f (5 s)
   pub set-column-is : (h i : ℕ) → i < columnBorders set → (columnOf (bordersOf s set) h ≤ i) ↔ Against _<_ set i (s .f) h
   set-column-is h i l =
       Iff·trans
-      (column-is (bordersOf s set) (set-columns-rise s g set (set-is-known set .1 two)) h i (omega (arith, set-sizes s set two .1)))
+      (column-is (bordersOf s set) (set-columns-rise s g set known) h i (omega (arith, set-sizes s set two .1)))
       (column-border s set h i two l)
 
 -- ---- the curve

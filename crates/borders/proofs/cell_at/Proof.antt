@@ -1,39 +1,51 @@
--- `borders::cell_at` meets its contract: by marks and fifths the code finds the rules' cell, and every product fits.
-use mathlib.Core.Path.{_≡_, _∙_}
+-- `borders::cell_at` meets its contract: row, column and number of columns are the rules', and a cell of a known set is below forty.
+use Prim.Native.Nat.{suc, _+_, _*_}
+use mathlib.Core.Path.{_≡_, ap, _∙_}
 use native.Mathlib.Omega.{arith}
+use Rattle.rules.specs.Borders.{bordersOf, columnsIn, cellAt}
+use Rattle.rules.proofs.Borders.{cell-high, set-cells}
+use Rattle.borders.proofs.Laws.{columns-cut, columns-size}
 use borrow.Author.Needs.{needs}
-use Rattle.rules.specs.Halves.{full}
-use Rattle.rules.specs.Borders.{bordersOf, listsOf}
-use Rattle.rules.proofs.Ranges.{good, full-high}
-use Rattle.borders.proofs.Laws.{cell-by-marks}
 use Rattle.borders.proofs.cell_at.Statement.{statement}
 use Rattle.borders.proofs.cell_at.Tie as tie
 
-full-of-requires : tie.Need-full-of-requires
-full-of-requires c κs = search needs
+row-requires : tie.Need-row-requires
+row-requires c κs = search needs
 
-mul-cell-by : tie.Need-mul-cell-by
-mul-cell-by c = omega (arith, good _ (c .before .pre .0) .n-high, c .before .pre .2)
+column-requires : tie.Need-column-requires
+column-requires c κs = search needs
 
-mul-cell-by-2 : tie.Need-mul-cell-by-2
-mul-cell-by-2 c = search needs
+count-from-requires : tie.Need-count-from-requires
+count-from-requires c κs =
+    let p = c .before .before in
+    let cut = columns-cut (p .args .s) (p .args .set) (p .pre .1) in
+    (p .pre .1, cut .0, omega (arith, cut .1))
 
-add-cell-by : tie.Need-add-cell-by
-add-cell-by c = search needs
+cell-is : (c : tie.After-count-from)
+    → let a = c .before .before .before .args in
+    c .count-from .result * c .before .before .row .result + c .before .column .result ≡ cellAt (a .s) (bordersOf (a .s) (a .set)) (a .extreme) (a .h)
+cell-is c =
+    let p = c .before .before .before in
+    let many : c .count-from .result ≡ columnsIn (bordersOf (p .args .s) (p .args .set)) =
+    c .count-from .ensures ∙ ap suc (columns-size (p .args .s) (p .args .set) (p .pre .1)) in
+    rw (many, c .before .before .row .ensures, c .before .column .ensures)
 
-cell-by-requires : tie.Need-cell-by-requires
-cell-by-requires c κs =
-    let g = good _ (c .before .pre .0) in
-    (c .before .pre .1, omega (arith, c .full-of .ensures, full-high _ g), g .f-high)
+mul-result : tie.Need-mul-result
+mul-result c =
+    let p = c .before .before .before in
+    let a = p .args in
+    omega (arith, cell-is c, cell-high (a .s) (bordersOf (a .s) (a .set)) (a .extreme) (a .h), set-cells (a .s) (a .set) (p .pre .1))
+
+add-result : tie.Need-add-result
+add-result c =
+    let p = c .before .before .before in
+    let a = p .args in
+    omega (arith, cell-is c, cell-high (a .s) (bordersOf (a .s) (a .set)) (a .extreme) (a .h), set-cells (a .s) (a .set) (p .pre .1))
 
 returns : tie.Need-returns
-unfolding bordersOf
-returns c =
-    let a = c .before .before .args in
-    let m : c .before .full-of .result ≡ full (a .s) = c .before .full-of .ensures in
-    rw m at (c .cell-by .ensures) ∙ cell-by-marks (a .s) (listsOf (a .set) (a .s .f)) (a .extreme) (a .h)
+returns c = cell-is c
 
 pub cell-at-spec : {M : Type 1} → statement M
 cell-at-spec =
     tie.close
-    (tie.spec full-of-requires mul-cell-by mul-cell-by-2 add-cell-by cell-by-requires returns)
+    (tie.spec row-requires column-requires count-from-requires mul-result add-result returns)
