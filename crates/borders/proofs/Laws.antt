@@ -155,13 +155,13 @@ module _ (s : Settings) (set : ℕ) (known : knownSet set ≡ true) where
   pub columns-cut : (getD columnsFrom set 0 ≤ getD columnsFrom (set + 1) 0) × (getD columnsFrom (set + 1) 0 ≤ length allFifths)
   columns-cut = cut-fits allFifths columnsFrom refl set known
 
-  pub rows-are : cut (getD rowsFrom set 0) (getD rowsFrom (set + 1) 0) allRows ≡ bordersOf s set .rows
+  rows-are : cut (getD rowsFrom set 0) (getD rowsFrom (set + 1) 0) allRows ≡ bordersOf s set .rows
   unfolding bordersOf
   rows-are =
       are-same (partOf allRows rowsFrom set) (listsOf set (s .f) .rows)
       (of-known (λ i. same (partOf allRows rowsFrom i) (listsOf i (s .f) .rows)) refl set known)
 
-  pub columns-are : settingsGood s ≡ true
+  columns-are : settingsGood s ≡ true
       → fifthsAt (s .f) (cut (getD columnsFrom set 0) (getD columnsFrom (set + 1) 0) allFifths) (cut (getD columnsFrom set 0) (getD columnsFrom (set + 1) 0) allTimes)
       ≡ bordersOf s set .columns
   unfolding bordersOf
@@ -196,11 +196,17 @@ cut-length xs ys h a e = simp (length-take, length-drop) (rw h)
 
 -- ---- row and column
 
-pub by-rows : (s : Settings) (b : Borders) (S : ℕ) → placeOf (λ p. ltb (p * p * full s) (10000 * S)) (b .rows) ≡ rowOf s b S
+-- THE LAW: among the part of the code's lists that a known set has, the place is the rules' row, and column
+pub by-rows : (s : Settings) (set : ℕ) → knownSet set ≡ true → (S : ℕ)
+    → placeOf (λ p. ltb (p * p * full s) (10000 * S)) (cut (getD rowsFrom set 0) (getD rowsFrom (set + 1) 0) allRows) ≡ rowOf s (bordersOf s set) S
 unfolding rowOf
-by-rows s b S =
-    place-same (λ p. ltb (p * p * full s) (10000 * S)) (λ p. not (atMost s p S)) (λ p. above-is (p * p * full s) (10000 * S)) (b .rows)
+by-rows s set known S =
+    rw (rows-are s set known)
+    (place-same (λ p. ltb (p * p * full s) (10000 * S)) (λ p. not (atMost s p S)) (λ p. above-is (p * p * full s) (10000 * S)) (bordersOf s set .rows))
 
-pub by-columns : (b : Borders) (h : ℕ) → placeOf (λ p. leb p (5 * h)) (b .columns) ≡ columnOf b h
+pub by-columns : (s : Settings) → settingsGood s ≡ true → (set : ℕ) → knownSet set ≡ true → (h : ℕ)
+    → placeOf (λ b. leb b (5 * h))
+    (fifthsAt (s .f) (cut (getD columnsFrom set 0) (getD columnsFrom (set + 1) 0) allFifths) (cut (getD columnsFrom set 0) (getD columnsFrom (set + 1) 0) allTimes))
+    ≡ columnOf (bordersOf s set) h
 unfolding columnOf
-by-columns b h = refl
+by-columns s g set known h = rw (columns-are s set known g)

@@ -1,9 +1,8 @@
 -- `borders::column` meets its contract: the parts of the code's lists that a set has make the set's list of the rules.
 use mathlib.Core.Path.{refl, _∙_}
 use native.Mathlib.Omega.{arith}
-use Rattle.rules.specs.Borders.{bordersOf}
 use Rattle.rules.proofs.Ranges.{good}
-use Rattle.borders.proofs.Laws.{known-low, columns-cut, columns-are, by-columns}
+use Rattle.borders.proofs.Laws.{known-low, columns-cut, by-columns}
 use borrow.Author.Needs.{needs}
 use Rattle.borders.proofs.column.Statement.{statement}
 use Rattle.borders.proofs.column.Tie as tie
@@ -41,9 +40,7 @@ column-within-requires c κs =
 returns : tie.Need-returns
 returns c =
     let p = c .before .before .before in
-    let s = p .args .s in
-    let set = p .args .set in
-    c .column-within .ensures ∙ rw (columns-are s set (p .pre .1) (p .pre .0)) (by-columns (bordersOf s set) (p .args .h))
+    c .column-within .ensures ∙ by-columns (p .args .s) (p .pre .0) (p .args .set) (p .pre .1) (p .args .h)
 
 pub column-spec : {M : Type 1} → statement M
 column-spec =

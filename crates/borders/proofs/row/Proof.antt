@@ -3,9 +3,8 @@ use Prim.Native.Nat.{_≤_}
 use mathlib.Core.Path.{_≡_, refl, _∙_}
 use native.Mathlib.Omega.{arith}
 use Rattle.rules.specs.Halves.{full}
-use Rattle.rules.specs.Borders.{bordersOf}
 use Rattle.rules.proofs.Ranges.{good, full-high}
-use Rattle.borders.proofs.Laws.{known-low, rows-cut, rows-are, by-rows}
+use Rattle.borders.proofs.Laws.{known-low, rows-cut, by-rows}
 use borrow.Author.Needs.{needs}
 use Rattle.borders.proofs.row.Statement.{statement}
 use Rattle.borders.proofs.row.Tie as tie
@@ -47,7 +46,7 @@ returns c =
     let s = p .args .s in
     let set = p .args .set in
     let m : c .before .before .full-of .result ≡ full s = c .before .before .full-of .ensures in
-    rw m at (c .row-within .ensures) ∙ rw (rows-are s set (p .pre .1)) (by-rows s (bordersOf s set) (p .args .extreme))
+    rw m at (c .row-within .ensures) ∙ by-rows s set (p .pre .1) (p .args .extreme)
 
 pub row-spec : {M : Type 1} → statement M
 row-spec =
