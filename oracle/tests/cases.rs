@@ -123,10 +123,8 @@ impl Reached {
                 self.borders.note_score(settings, *set, event, (*reason, *cell));
                 self.reasons.insert(*reason);
                 if *reason == 0 {
-                    let (f, width) = (settings.f, SETS[*set as usize].width());
-                    self.rows.insert((*set, cell / width));
-                    self.columns.insert((*set, f, cell % width));
-                    self.lasting.insert((f, event[2] - event[1]));
+                    self.lasting.insert((settings.f, event[2] - event[1]));
+                    self.note_cell(settings.f, *set, *cell);
                 }
             }
             (Asked::Straight { .. }, Answer::Sums(sums)) => {
@@ -134,6 +132,12 @@ impl Reached {
             }
             _ => {}
         }
+    }
+
+    fn note_cell(&mut self, f: u64, set: u64, cell: u64) {
+        let width = SETS[set as usize].width();
+        self.rows.insert((set, cell / width));
+        self.columns.insert((set, f, cell % width));
     }
 }
 
