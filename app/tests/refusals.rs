@@ -206,6 +206,20 @@ fn refusal_9_for_borders_that_do_not_fit() {
     let moved = |cell: &str| {
         good.replace("\ncell-11 1\n", "\ncell-11 0\n").replace(&format!("\n{cell} 0\n"), &format!("\n{cell} 1\n"))
     };
+    for text in [good.replace("\nborders 1\n", "\nborders 2\n"), moved("cell-25"), moved("cell-39")] {
+        folder.write("x.site", &text);
+        every_command_tells_it(&folder);
+        assert_eq!(folder.read("x.site"), text);
+    }
+    // The last cell of the set is one, and by the other set the same cells are.
+    for text in [moved("cell-24"), moved("cell-39").replace("\nborders 1\n", "\nborders 0\n")] {
+        folder.write("x.site", &text);
+        folder.accepted(&["show", "x.site"]);
+    }
+}
+
+/// Every command that reads the site x.site, with a recording where it takes one, tells refusal 9, and writes no page.
+fn every_command_tells_it(folder: &Folder) {
     let commands: [&[&str]; 6] = [
         &["show", "x.site"],
         &["add", "x.site", "k.csv"],
@@ -214,20 +228,12 @@ fn refusal_9_for_borders_that_do_not_fit() {
         &["check", "k.csv", "--site", "x.site"],
         &["report", "x.site", "k.csv", "-o", "x.html"],
     ];
-    for text in [good.replace("\nborders 1\n", "\nborders 2\n"), moved("cell-25"), moved("cell-39")] {
-        folder.write("x.site", &text);
-        for args in commands {
-            let ran = folder.refused(args, 9, 0);
-            assert!(ran.err.contains("x.site: refusal 9, place 0: the table offered is unsound"), "{ran:?}");
-        }
-        assert_eq!(folder.read("x.site"), text);
-        assert!(!folder.path("x.html").exists());
+    for args in commands {
+        let ran = folder.refused(args, 9, 0);
+        let words = "x.site: refusal 9, place 0: the table offered is unsound (the file is damaged or was edited, and is left as it is)";
+        assert!(ran.err.contains(words), "{ran:?}");
     }
-    // The last cell of the set is one, and by the other set the same cells are.
-    for text in [moved("cell-24"), moved("cell-39").replace("\nborders 1\n", "\nborders 0\n")] {
-        folder.write("x.site", &text);
-        folder.accepted(&["show", "x.site"]);
-    }
+    assert!(!folder.path("x.html").exists());
 }
 
 /// Parts that don't add up are told as any other damage, by every command, and left.
@@ -239,19 +245,7 @@ fn refusal_9_for_parts_that_do_not_add_up() {
     folder.accepted(&["add", "x.site", "k.csv"]);
     let edited = folder.read("x.site").replace("shortfall-a 12000000", "shortfall-a 12000001");
     folder.write("x.site", &edited);
-    let commands: [&[&str]; 6] = [
-        &["show", "x.site"],
-        &["add", "x.site", "k.csv"],
-        &["list", "k.csv", "--site", "x.site"],
-        &["explain", "k.csv", "--site", "x.site"],
-        &["check", "k.csv", "--site", "x.site"],
-        &["report", "x.site", "k.csv", "-o", "x.html"],
-    ];
-    for args in commands {
-        let ran = folder.refused(args, 9, 0);
-        let words = "the table offered is unsound (the file is damaged or was edited, and is left as it is)";
-        assert!(ran.err.contains(words), "{ran:?}");
-    }
+    every_command_tells_it(&folder);
     assert_eq!(folder.read("x.site"), edited);
     assert!(!folder.path("x.html").exists());
 }
