@@ -247,7 +247,6 @@ fn refusal_9_for_parts_that_do_not_add_up() {
     folder.write("x.site", &edited);
     every_command_tells_it(&folder);
     assert_eq!(folder.read("x.site"), edited);
-    assert!(!folder.path("x.html").exists());
 }
 
 #[test]
