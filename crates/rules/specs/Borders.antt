@@ -29,6 +29,7 @@ sets =
     ∷ (λ f. record { rows = 10 ∷ 40 ∷ 70 ∷ 80 ∷ []; columns = 5 * 2 ∷ 2 * f ∷ 5 * f ∷ 5 * (10 * f) ∷ [] })
     ∷ []
 
+-- a set of the list; any other number is an unknown set
 unfoldable pub knownSet : ℕ → Bool
 knownSet set = ltb set (length sets)
 
