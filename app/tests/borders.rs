@@ -105,7 +105,8 @@ fn programs_read_the_grid_and_the_word() {
     assert!(empty.ends_with("\nborders,4-11\n"), "{empty}");
 }
 
-/// A list goes by the site's set or by `--borders`, and says by which. A row without an event says so too.
+/// A list goes by the site's set or by `--borders`, says by which, and names a sag's row and column by it. A row without an event
+/// says by which, too.
 #[test]
 fn list_names_the_set() {
     let folder = with_k2("borders-list");
@@ -122,8 +123,14 @@ fn list_names_the_set() {
             folder.accepted(&[&["list", "k.csv", "none.csv"][..], &KNOWN, format].concat())
         );
     }
-    says(&by_site(&[]), &["severity   energy  cell (IEC 61000-4-11)\n", "    1.000  0.045 s  11\n"]);
-    says(&by_word("unipede", &[]), &["severity   energy  cell (UNIPEDE)\n", "    1.000  0.045 s  17\n"]);
+    says(
+        &by_site(&[]),
+        &["severity   energy  cell (IEC 61000-4-11)\n", "    1.000  0.045 s  11: 40 to 70 %, < 200 ms\n"],
+    );
+    says(
+        &by_word("unipede", &[]),
+        &["severity   energy  cell (UNIPEDE)\n", "    1.000  0.045 s  17: 40 to 70 %, < 0.1 s\n"],
+    );
     let json = by_site(&["--json"]);
     assert!(json.contains("\"cell\":11,") && json.ends_with("]}],\"borders\":\"4-11\"}\n"), "{json}");
     for (word, cell) in [("unipede", "17"), ("4-11", "11")] {
@@ -351,7 +358,7 @@ fn the_demo_by_the_other_borders() {
     says(
         &told,
         &[
-            "     1.333  0.052 s  12\n",
+            "     1.333  0.052 s  12: 40 to 70 %, 200-500 ms\n",
             "  borders        IEC 61000-4-11\n",
             "  at most 10 %           .         1           .        .       .\n",
             "  40 to 70 %             .         .           1        .       .\n",
@@ -360,7 +367,7 @@ fn the_demo_by_the_other_borders() {
     );
     assert_eq!(counts(&folder.read("demo.html")).len(), 25);
     let first = folder.accepted(&["demo"]);
-    says(&first, &["     1.333  0.052 s  18\n", "  borders        UNIPEDE\n"]);
+    says(&first, &["     1.333  0.052 s  18: 40 to 70 %, 0.1-0.5 s\n", "  borders        UNIPEDE\n"]);
     assert!(!first.contains("4-11"), "{first}");
     assert_eq!(first, folder.accepted(&["demo", "--borders", "unipede"]));
     // What it says to go on with gives the same table.

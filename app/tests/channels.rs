@@ -47,12 +47,12 @@ fn the_list_has_a_figure_for_each_channel() {
     let wanted = "\
 k.csv: 5 half-cycles (0.050 s): 2 healthy, 3 disturbed, 0 unknown; 1 event
   no  kind  start  end       at   lasted  seen  extreme  retained  shortfall  type  ms lost a / b / c  severity   energy  cell (UNIPEDE)
-   1  sag       1    4  0.010 s  0.030 s  both  2000000       500   24044800  Cc          15 / 12 / 2     1.000  0.030 s  17
+   1  sag       1    4  0.010 s  0.030 s  both  2000000       500   24044800  Cc          15 / 12 / 2     1.000  0.030 s  17: 40 to 70 %, < 0.1 s
   What a, b and c lost is rounded down each by itself: together it may be less than the energy.
 ";
     assert_eq!(said(&folder, "list", &three(), &[]), wanted);
     let even = said(&folder, "list", &dip([500, 1000, 1000]), &[]);
-    says(&even, &["  15 / 0 / 0     1.000  0.015 s  17\n"]);
+    says(&even, &["  15 / 0 / 0     1.000  0.015 s  17: 40 to 70 %, < 0.1 s\n"]);
     assert!(!even.contains("rounded"), "where they make up the energy nothing is said: {even}");
 }
 
@@ -92,7 +92,7 @@ fn explain_says_which_channel_lost_what() {
 fn less_than_a_millisecond_is_not_nothing() {
     let (folder, low) = (Folder::new("channels-short"), ["--sag", "95"]);
     let told = said(&folder, "list", &shallow(500), &low);
-    says(&told, &["  15 / 0 / <1     1.000  0.015 s  17\n"]);
+    says(&told, &["  15 / 0 / <1     1.000  0.015 s  17: 40 to 70 %, < 0.1 s\n"]);
     says(
         &explained(&folder, &shallow(500), &low),
         &["channel a lost 0.015 s, b nothing, c less than 0.001 s: 12000000 + 0 + 795192 = shortfall 12795192, each"],

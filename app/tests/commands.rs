@@ -55,7 +55,7 @@ fn list_is_aligned_and_plain() {
     let wanted = "\
 k.csv: 5 half-cycles (0.050 s): 2 healthy, 3 disturbed, 0 unknown; 1 event
   no  kind  start  end       at   lasted  seen  extreme  retained  shortfall  type  ms lost a / b / c  severity   energy  cell (UNIPEDE)
-   1  sag       1    4  0.010 s  0.030 s  both  2000000       500   36000000  A          15 / 15 / 15     1.000  0.045 s  17
+   1  sag       1    4  0.010 s  0.030 s  both  2000000       500   36000000  A          15 / 15 / 15     1.000  0.045 s  17: 40 to 70 %, < 0.1 s
 ";
     assert_eq!(folder.accepted(&[&["list", "k.csv"][..], &KNOWN].concat()), wanted);
 }
@@ -201,7 +201,7 @@ fn demo_lists_tables_and_writes_its_page() {
     let folder = Folder::new("demo");
     let told = folder.accepted(&["demo"]);
     for words in [
-        "   1  sag      19   59  0.190 s  0.400 s  both  12188262852       600  176251862040  Da           52 / 0 / 0     1.333  0.052 s  18\n",
+        "   1  sag      19   59  0.190 s  0.400 s  both  12188262852       600  176251862040  Da           52 / 0 / 0     1.333  0.052 s  18: 40 to 70 %, 0.1-0.5 s\n",
         "none: only the end unseen\n",
         "none: only the start unseen\n",
         "   2  interruption     20   29  0.200 s  0.090 s  both",

@@ -133,7 +133,7 @@ fn row(s: &Settings, at: usize, event: &Found, lost: String, cut: &str) -> Vec<S
     match event.score {
         Some(score) => {
             row.extend([format!("{:.3}", score.severity), format!("{:.3} s", score.energy)]);
-            row.push(format!("{}{cut}", event.cell));
+            row.push(format!("{}{cut}", words::placed(event.grid, event.cell)));
         }
         None => row.push(format!("none: {}{cut}", words::reason(event.reason))),
     }

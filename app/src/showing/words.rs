@@ -127,6 +127,12 @@ pub fn class_told(number: u64) -> String {
     format!("of six voltages ({six}) the smallest is {smallest}")
 }
 
+/// A cell with the names of its row and column, short enough for a list.
+pub fn placed(grid: &Grid, number: u64) -> String {
+    let (at_row, at_column) = grid.place(number);
+    format!("{number}: {}, {}", grid.row(at_row), grid.columns[at_column])
+}
+
 /// A cell's row and column in words.
 pub fn cell(grid: &Grid, number: u64) -> String {
     let (at_row, at_column) = grid.place(number);
