@@ -1,4 +1,6 @@
 // The borders of cells: which sets of them there are, and the cell of an extreme and a duration by a set.
+#![tactic(auto)]
+
 ghost use Rattle.std.specs.Prelude.{◌≡◌, true, suc, ◌+◌, ◌-◌, ◌*◌, ◌≤◌, leb, ltb, length, get_or};
 ghost use Rattle.rules.specs.Recorder.{settings_good};
 ghost use Rattle.rules.specs.Borders.{known_set, borders_of, place_of, row_of, column_of, cell_at};

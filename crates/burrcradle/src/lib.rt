@@ -1,5 +1,7 @@
 // The boundary for C and Rust. Settings are seven numbers, a set of borders is one, an event is eleven, a half-cycle five and a site table
 // 60, in the order of the rules.
+#![tactic(auto)]
+
 ghost use Rattle.std.specs.Prelude.{◌≡◌, length};
 ghost use Rattle.rules.specs.Scores.{reason_by, scoring_by, reason_number};
 ghost use Rattle.rules.specs.Site.{cell_of};

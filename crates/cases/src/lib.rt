@@ -1,4 +1,6 @@
 // What the programs over the known answers share: their settings, their blocks of samples, K9, and how a refusal is written.
+#![tactic(auto)]
+
 ghost use Rattle.std.specs.Prelude.{◌≡◌, length};
 ghost use Rattle.rules.specs.Known.{settings};
 

@@ -1,5 +1,7 @@
 // What the recorder hands over, checked: refusals 1 to 5, the tests of a sample for refusal 6; N x R x R, and how many half-cycles there
 // are.
+#![tactic(auto)]
+
 ghost use Rattle.std.specs.Prelude.{◌≡◌, true, ◌≤◌, length};
 ghost use Rattle.rules.specs.Recorder.{bad_setting, settings_good, missing, in_range, first_bad};
 ghost use Rattle.rules.specs.Halves.{full, halves_of};

@@ -1,4 +1,6 @@
 // How many events a recording has, or refusal 6; and notes of where something goes on, for the pass that writes.
+#![tactic(auto)]
+
 ghost use Rattle.std.specs.Prelude.{◌≡◌, true, not, ◌&&◌, cond, ◌≤◌, ◌<◌, length};
 ghost use Rattle.rules.specs.Bounded.{bit};
 ghost use Rattle.rules.specs.Recorder.{settings_good};

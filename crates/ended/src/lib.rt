@@ -1,4 +1,6 @@
 // An event that has ended: its eleven numbers, and their place in the lent run.
+#![tactic(auto)]
+
 ghost use Rattle.std.specs.Prelude.{◌≡◌, true, ◌+◌, ◌≤◌, length};
 ghost use Rattle.std.proofs.lemmas.List.Edits.{sets};
 ghost use Rattle.rules.specs.Recorder.{settings_good};

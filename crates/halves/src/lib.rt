@@ -1,5 +1,7 @@
 // Half-cycles. A recording is a row of steps, half a cycle of samples of each channel, and each is summed once: half-cycle k is
 // steps k and k + 1, unknown where one of them lacks a sample, and else their sums added.
+#![tactic(auto)]
+
 ghost use Rattle.std.specs.Prelude.{◌≡◌, ◌+◌, ◌*◌, ◌/◌, ◌%◌, ◌≤◌, true, length};
 ghost use Rattle.rules.specs.Recorder.{settings_good, first_bad};
 ghost use Rattle.rules.specs.declared.Refusal.TheVariants.{Sample};

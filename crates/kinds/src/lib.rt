@@ -1,4 +1,6 @@
 // One machine for the three kinds: what a half-cycle does to the event of a kind that is going on.
+#![tactic(auto)]
+
 ghost use Rattle.std.specs.Prelude.{◌≡◌, true, cond, ◌+◌, ◌*◌, ◌≤◌};
 ghost use Rattle.rules.specs.Recorder.{settings_good};
 ghost use Rattle.rules.specs.Halves.{full as full_of};

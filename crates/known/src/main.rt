@@ -1,6 +1,8 @@
 // Lists the known answers K1 to K12 and three recordings that are turned away, through the public call, and writes a line for
 // each: how many events there are, and of each its eleven numbers, its reason, and its cells by set 0 and by set 1; or the refusal and
 // its place.
+#![tactic(auto)]
+
 ghost use Rattle.std.specs.Prelude.{◌+◌, ◌*◌, ◌≤◌, length};
 
 use cases::{blocks, k9, settings, write_refusal};

@@ -1,5 +1,7 @@
 // The ledger of a recording while it is surveyed: what goes on and what is counted so far, and what a half-cycle, a sag's end and a
 // quiet stretch make of it.
+#![tactic(auto)]
+
 ghost use Rattle.std.specs.Prelude.{◌≡◌, ◌+◌, ◌≤◌};
 ghost use Rattle.rules.specs.Bounded.{bit};
 ghost use Rattle.kinds.specs.Machine.{Light};

@@ -1,4 +1,6 @@
 // The event list: the events counted, the room tested, and a pass that goes where the notes say and writes each event where it belongs.
+#![tactic(auto)]
+
 ghost use Rattle.std.specs.Prelude.{◌≡◌, true, false, ◌+◌, ◌-◌, ◌≤◌, ◌<◌, length, get_or};
 ghost use Rattle.rules.specs.Bounded.{first_not};
 ghost use Rattle.rules.specs.Recorder.{settings_good};

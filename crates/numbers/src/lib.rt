@@ -1,5 +1,7 @@
 // Plain numbers and runs of them: the lesser and the greater of two, a division for any divisor, three numbers that make up a whole,
 // one run copied into another, two runs added place by place, and two sums channel by channel.
+#![tactic(auto)]
+
 ghost use Rattle.std.specs.Prelude.{◌≡◌, ℕ, ◌+◌, ◌/◌, ◌%◌, ◌^◌, ◌≤◌, ◌<◌, min, max, eqb, length, get_or};
 ghost use Rattle.std.proofs.Math.Seq.{paste};
 ghost use Rattle.rules.specs.Halves.{of_channel, channels};

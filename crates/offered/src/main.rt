@@ -1,5 +1,7 @@
 // Offers a fresh table of each set of borders several recordings, refused ones among them, through the public calls, and writes a line
 // for each answer and one for the table. Then the table of zeros that a refused making hands back, which takes nothing.
+#![tactic(auto)]
+
 ghost use Rattle.std.specs.Prelude.{◌≤◌, length};
 
 use cases::{blocks, k9, settings, write_refusal};

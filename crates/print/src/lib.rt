@@ -1,4 +1,6 @@
 // Text and numbers on a program's standard output.
+#![tactic(auto)]
+
 use libc::STDOUT_FILENO;
 
 // Bytes as they are.

@@ -1,5 +1,7 @@
 // Quiet half-cycles: known ones at which no event begins. Where nothing is going on they begin and end nothing, and a loop of its own,
 // with few numbers to carry, passes over them.
+#![tactic(auto)]
+
 ghost use Rattle.std.specs.Prelude.{◌≡◌};
 ghost use Rattle.kinds.specs.Machine.{Few};
 ghost use Rattle.quiet.specs.Quiet.{quiet_by, quiet_till, Reading, StoppedAt};

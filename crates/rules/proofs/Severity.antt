@@ -8,7 +8,7 @@ use native.Mathlib.Omega.{arith}
 use borrow.Author.Tests.{ne_eqb}
 use lib.Dec.{T, lit≤, lit<}
 use lib.Pow.{pow_pos}
-use lib.Ieee.{Float, fin, Format, binary64, up, down, size, round, div, of_int}
+use lib.Ieee.{Float, nan, inf, fin, Format, binary64, up, down, size, round, div, of_int}
 use lib.Ieee.Fits.{down_pos}
 use lib.Ieee.Exact.{HasValue}
 use lib.Ieee.Back.{round_whole}
@@ -33,7 +33,11 @@ not_zero n h e = omega arith
 -- the quotient of two floats that are whole numbers
 whole_quotient : (f : Format) (x y : Float) (a b : ℕ) → 0 < b → HasValue x false a 1 → HasValue y false b 1 → div f x y ≡ round f false a b
 unfolding div
+whole_quotient f nan y a b B p q = elim p [ ]
+whole_quotient f (inf s) y a b B p q = elim p [ ]
 whole_quotient f (fin true m e) y a b B p q = absurd (true≢false p.0)
+whole_quotient f (fin false m e) nan a b B p q = elim q [ ]
+whole_quotient f (fin false m e) (inf s) a b B p q = elim q [ ]
 whole_quotient f (fin false m e) (fin true n d) a b B p q = absurd (true≢false q.0)
 whole_quotient f (fin false m e) (fin false n d) a b B p q =
     let u : m * up e ≡ a * down e = sym (mul-one (m * up e)) ∙ p.1 in

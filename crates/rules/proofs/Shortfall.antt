@@ -1,7 +1,7 @@
 -- Of each channel, the shortfalls of all sags add up to the sum over every half-cycle in a sag. Over any test: what the runs that start below m hold is
 -- what the numbers below m hold that pass, and of the run that goes on at m what is left of it. Assumes nothing.
 use Prim.Native.Nat.{ℕ, zero, suc, ◌+◌, ◌-◌, ◌≤◌, ◌<◌}
-use mathlib.Core.Path.{◌≡◌, refl, sym, ◌∙◌}
+use mathlib.Core.Path.{◌≡◌, refl, sym, ◌∙◌, subst}
 use mathlib.Core.Bool.{Bool, true, false, not, ◌&&◌, cond}
 use mathlib.Core.List.{List}
 use mathlib.Core.Logic.{⊎_elim}
@@ -41,12 +41,15 @@ module _ (f : ℕ → ℕ) where
   pub from_one : (a : ℕ) → sum_from f a (suc a) ≡ f a
   from_one a = from_more a a (omega arith) ∙ omega (arith, from-none a a (omega arith))
 
+  from_itself : (e : ℕ) → sum_from f e (suc e) ≡ f e + sum_from f (suc e) (suc e)
+  from_itself e = omega (arith, from_one e, from-none (suc e) (suc e) (omega arith))
+
   -- the first of them apart
   from_first : (a e : ℕ) → a < e → sum_from f a e ≡ f a + sum_from f (suc a) e
   from_first a zero l = absurd (omega arith)
   from_first a (suc e) l =
       ⊎_elim
-      (λ q. rw q (omega (arith, from_one e, from-none (suc e) (suc e) (omega arith))))
+      (λ q. subst (λ (x : ℕ). sum_from f x (suc e) ≡ f x + sum_from f (suc x) (suc e)) (sym q) (from_itself e))
       (λ u. omega (arith, from_more a e (omega arith), from_more (suc a) e u, from_first a e u))
       (eq-or-lt_of_le {n = a} {m = e} (omega arith))
 

@@ -1,4 +1,6 @@
 // The type of a sag: six sums over the samples of one half-cycle, and which of them is the smallest.
+#![tactic(auto)]
+
 ghost use Rattle.std.specs.Prelude.{◌≡◌, true, ◌*◌, ◌≤◌, nat_abs, ◌-ℤ◌, length};
 ghost use Rattle.rules.specs.Recorder.{settings_good};
 ghost use Rattle.rules.specs.Halves.{square, known, half_at};

@@ -1,4 +1,6 @@
 // The score of one event: its retained value, the reason why it has no score, severity and energy, and its cell.
+#![tactic(auto)]
+
 ghost use Rattle.std.specs.Prelude.{◌≡◌, true, ◌+◌, ◌*◌, ◌≤◌, ◌<◌};
 ghost use Rattle.rules.specs.Recorder.{settings_good};
 ghost use Rattle.rules.specs.Events.{retained_of};

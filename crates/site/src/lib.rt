@@ -1,4 +1,6 @@
 // The site table: fresh for its settings, and grown by a recording.
+#![tactic(auto)]
+
 ghost use Rattle.std.specs.Prelude.{◌≡◌, true, false, ◌&&◌, ◌||◌, ℕ, ◌+◌, ◌≤◌, min as lesser, ltb, eqb, get_or};
 ghost use Rattle.rules.specs.Bounded.{all};
 ghost use Rattle.rules.specs.Borders.{known_set, borders_of};

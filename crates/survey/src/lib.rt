@@ -1,4 +1,6 @@
 // The survey of a recording: one pass over its half-cycles that counts all that a site table holds.
+#![tactic(auto)]
+
 ghost use Rattle.std.specs.Prelude.{◌≡◌, true, cond, ◌<◌};
 ghost use Rattle.rules.specs.Recorder.{settings_good};
 ghost use Rattle.rules.specs.Borders.{known_set};

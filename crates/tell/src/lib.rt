@@ -1,4 +1,6 @@
 // What one half-cycle tells: its class, the kinds it lies in and its sums, by the machine of the kinds; and their place in the lent run.
+#![tactic(auto)]
+
 ghost use Rattle.std.specs.Prelude.{◌≡◌, ◌+◌, ◌*◌, ◌≤◌, length};
 ghost use Rattle.std.proofs.lemmas.List.Edits.{sets};
 ghost use Rattle.rules.specs.Bounded.{bit};

@@ -1,4 +1,6 @@
 // Each half-cycle told: five numbers, in order. One pass checks the samples; one over the steps writes.
+#![tactic(auto)]
+
 ghost use Rattle.std.specs.Prelude.{◌≡◌, true, length};
 ghost use Rattle.rules.specs.Recorder.{settings_good};
 ghost use Rattle.rules.specs.Trace.{trace_of};

@@ -1,5 +1,7 @@
 // One channel of a run of interleaved samples, read in order through a view that holds the caller's samples and copies
 // nothing. The functions over the view are thin, and `step_at` does their work on a plain slice.
+#![tactic(auto)]
+
 ghost use Rattle.std.specs.Prelude.{◌≡◌};
 ghost use Rattle.view.specs.Channel.{count_of, reading_of, step_of, view_of, moved_on};
 

@@ -1,5 +1,7 @@
 // Walks the channels of K12 and of a ragged run through a view and writes each channel's samples on a line, with the
 // position where there is none. Channel 3, which no run has, is walked too.
+#![tactic(auto)]
+
 ghost use Rattle.std.specs.Prelude.{◌≡◌, length};
 
 use view::Reading;

@@ -1,5 +1,7 @@
 // The numbers of the boundary: settings are seven, an event eleven, a site table 60, in the order of the rules; an answer is its
 // number and its place.
+#![tactic(auto)]
+
 ghost use Rattle.std.specs.Prelude.{◌≡◌};
 ghost use Rattle.rules.specs.Refusals.{number_of, place_in};
 ghost use Rattle.words.specs.Numbers.{settings_from, event_with, number_of_taken, place_of_taken};
