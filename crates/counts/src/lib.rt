@@ -20,7 +20,7 @@ use quiet::{Stretch, pass_quiet};
 use rules::{Half, Kind, Listed, Settings};
 
 // The state of the counting pass: which kinds are in an event, and how many events have started.
-#[derive(Drop)]
+#[derive(Clone, Copy)]
 pub struct Tally {
     pub sag: bool,
     pub interruption: bool,
@@ -30,7 +30,7 @@ pub struct Tally {
 
 // How far the counting pass has come: the tally before half-cycle k and that one's first step, whether that step is in range, and
 // whether the machine took half-cycle k - 1, so that it is to be noted.
-#[derive(Drop)]
+#[derive(Clone, Copy)]
 pub struct Counted {
     pub tally: Tally,
     pub step: Half,

@@ -11,14 +11,14 @@ use numbers::{max, min};
 use rules::{Half, Kind, Settings, Sums};
 
 // The two marks of a kind, in the unit of 10,000 x S: an event begins past `from`, and ends back at `to`.
-#[derive(Drop)]
+#[derive(Clone, Copy)]
 pub struct Marks {
     pub from: u64,
     pub to: u64,
 }
 
 // N x R x R and the marks of the three kinds, worked out once a pass.
-#[derive(Drop)]
+#[derive(Clone, Copy)]
 pub struct Thresholds {
     pub full: u64,
     pub sag: Marks,
@@ -28,7 +28,7 @@ pub struct Thresholds {
 
 // What the kinds ask of a half-cycle, worked out once for all three: the least and the greatest S, `low` and `high` for them in
 // the unit of the marks, and the shortfall of each channel.
-#[derive(Drop)]
+#[derive(Clone, Copy)]
 pub struct Level {
     pub known: bool,
     pub least: u64,
@@ -40,7 +40,7 @@ pub struct Level {
 
 // The event of a kind that is going on: where it started and whether that was seen, its extreme so far, the earliest half-cycle
 // of that, and the shortfall of each channel. All zero where none is going on.
-#[derive(Drop)]
+#[derive(Clone, Copy)]
 pub struct Open {
     pub inside: bool,
     pub start: u64,

@@ -13,7 +13,7 @@ use numbers::add_sums;
 use rules::{Half, Kind, Settings, Sums};
 
 // What goes on before a half-cycle: whether the one before is known, the sag, whether an interruption or a swell is.
-#[derive(Drop)]
+#[derive(Clone, Copy)]
 pub struct Track {
     pub known: bool,
     pub sag: Open,
@@ -22,7 +22,7 @@ pub struct Track {
 }
 
 // Half-cycles by their class.
-#[derive(Drop)]
+#[derive(Clone, Copy)]
 pub struct Classes {
     pub healthy: u64,
     pub disturbed: u64,
@@ -30,7 +30,7 @@ pub struct Classes {
 }
 
 // Events that have started, by kind.
-#[derive(Drop)]
+#[derive(Clone, Copy)]
 pub struct Starts {
     pub sags: u64,
     pub interruptions: u64,
@@ -38,14 +38,14 @@ pub struct Starts {
 }
 
 // What is told when a sag ends: sags that go in no cell, and the shortfall of each channel.
-#[derive(Drop)]
+#[derive(Clone, Copy)]
 pub struct Landed {
     pub unplaced: u64,
     pub parts: Sums,
 }
 
 // What the pass holds before a half-cycle: what goes on, and what is counted so far.
-#[derive(Drop)]
+#[derive(Clone, Copy)]
 pub struct Survey {
     pub track: Track,
     pub classes: Classes,

@@ -23,21 +23,21 @@ use numbers::min;
 use rules::{Half, Kind, Listed, Refusal, Settings, Taken};
 
 // An event of a kind that is going on, and the slot that waits for its words.
-#[derive(Drop)]
+#[derive(Clone, Copy)]
 pub struct Pending {
     pub event: Open,
     pub slot: u64,
 }
 
 // A kind's state after a half-cycle, and how many events have a slot.
-#[derive(Drop)]
+#[derive(Clone, Copy)]
 pub struct Visited {
     pub pending: Pending,
     pub n: u64,
 }
 
 // The state of the writing pass before a half-cycle; `known` tells of the half-cycle before it.
-#[derive(Drop)]
+#[derive(Clone, Copy)]
 pub struct Pass {
     pub known: bool,
     pub n: u64,
@@ -47,14 +47,14 @@ pub struct Pass {
 }
 
 // A half-cycle as the writing pass reads it, and the step after it.
-#[derive(Drop)]
+#[derive(Clone, Copy)]
 pub struct Read {
     pub half: Half,
     pub step: Half,
 }
 
 // The state of the writing pass, and the group of half-cycles that it stands before.
-#[derive(Drop)]
+#[derive(Clone, Copy)]
 pub struct Written {
     pub pass: Pass,
     pub group: u64,

@@ -12,7 +12,7 @@ use numbers::{max, min};
 use rules::{Half, Settings};
 
 // Where a quiet stretch ends: the first half-cycle that it does not hold, and the two steps of that, so that neither is summed again.
-#[derive(Drop)]
+#[derive(Clone, Copy)]
 pub struct Stretch {
     pub k: u64,
     pub step: Half,

@@ -15,7 +15,7 @@ use numbers::{add_each, max, min};
 use rules::Settings;
 
 // The smallest and the largest of six.
-#[derive(Drop)]
+#[derive(Clone, Copy)]
 pub struct Ends {
     pub low: u64,
     pub high: u64,

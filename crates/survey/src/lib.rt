@@ -20,7 +20,7 @@ use quiet::{Stretch, pass_quiet};
 use rules::{Half, Refusal, Settings, Site, Sums, Table, Taken};
 
 // How far the pass has come: the survey before half-cycle k, that one's first step, and whether that step is in range.
-#[derive(Drop)]
+#[derive(Clone, Copy)]
 pub struct Surveyed {
     pub survey: Survey,
     pub step: Half,

@@ -13,7 +13,7 @@ use numbers::copy;
 use rules::{Half, Kind, Sums};
 
 // The kinds that a half-cycle is in an event of.
-#[derive(Drop)]
+#[derive(Clone, Copy)]
 pub struct Inside {
     pub sag: bool,
     pub interruption: bool,

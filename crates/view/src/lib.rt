@@ -6,21 +6,21 @@ ghost use Rattle.std.specs.Prelude.{◌≡◌};
 ghost use Rattle.view.specs.Channel.{count_of, reading_of, step_of, view_of, moved_on};
 
 // What a view gives: a sample as it is in the run, or none.
-#[derive(Drop)]
+#[derive(Clone, Copy)]
 pub enum Reading {
     Sample(i32),
     Nothing,
 }
 
 // A reading, and the position after it.
-#[derive(Drop)]
+#[derive(Clone, Copy)]
 pub struct Step {
     pub reading: Reading,
     pub at: usize,
 }
 
 // The caller's samples, a channel (a is 0) and the position of the next reading.
-#[derive(Drop)]
+#[derive(Clone, Copy)]
 pub struct View<'a> {
     pub samples: &'a [i32],
     pub channel: usize,
