@@ -1,0 +1,15 @@
+-- Each arm is the case of the definition that its kind picks, without a branch. Assumes nothing.
+use Rattle.kinds.specs.Machine.{goes_by}
+use Rattle.kinds.proofs.goes_on.Goals as goal
+
+pub returns-in-Sag : goal.returns-in-Sag
+unfolding goes_by
+returns-in-Sag c = rw c.in-Sag.is
+
+pub returns-in-Interruption : goal.returns-in-Interruption
+unfolding goes_by
+returns-in-Interruption c = rw c.in-Interruption.is
+
+pub returns-in-Swell : goal.returns-in-Swell
+unfolding goes_by
+returns-in-Swell c = rw c.in-Swell.is
