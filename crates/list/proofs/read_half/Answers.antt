@@ -14,9 +14,7 @@ use Rattle.halves.proofs.Steps.{step_addable, half_of_steps}
 use Rattle.rules.specs.declared.Settings.{Settings}
 use Rattle.rules.specs.declared.Half.{Half}
 use Rattle.list.specs.Listing.{Readable}
-use borrow.Author.Rules.{rules}
-use Rattle.list.proofs.read_half.Statement.{statement}
-use Rattle.list.proofs.read_half.Tie as tie
+use Rattle.list.proofs.read_half.Goals as goal
 
 -- a half-cycle that exists
 module _ {s : Settings} {xs : List ℤ} {halves : ℕ} {step : Half} {k : ℕ} (v : Readable s xs halves step k) (not_last : k ≡ halves → ⊥) where
@@ -29,32 +27,24 @@ module _ {s : Settings} {xs : List ℤ} {halves : ℕ} {step : Half} {k : ℕ} (
       ∙ rw (v.step_is, e, add-one) (half_of_steps s xs (good s v.good-settings) (accepted_shape s xs v.accepted) k (omega (arith, inside)))
       ∙ ap (λ (ys : List ℤ). half_at s ys k) (accepted_itself s xs v.accepted)
 
-returns : tie.Need-returns
-returns c =
-    let v = c.before.requires in
-    (sym (half_past _ _ _ (omega (arith, v.halves_are, c.if1.true))), λ l. absurd (omega (arith, c.if1.true)))
+pub returns-then-k-halves : goal.returns-then-k-halves
+returns-then-k-halves c =
+    let v = c.requires in
+    (sym (half_past _ _ _ (omega (arith, v.halves_are, c.if-k-halves.true))), λ l. absurd (omega (arith, c.if-k-halves.true)))
 
-add-step-at : tie.Need-overflow-add-step-at
-add-step-at c = search rules
+pub step_at-next-requires : goal.step_at-next-requires
+step_at-next-requires c =
+    let v = c.requires in (v.good-settings, accepted_shape _ _ v.accepted, inside v c.if-k-halves.false)
 
-step-at-requires : tie.Need-step-at-requires
-step-at-requires c κs =
-    let v = c.before.requires in (v.good-settings, accepted_shape _ _ v.accepted, inside v c.if1.false)
-
-joined-requires : tie.Need-joined-requires
-joined-requires c κs =
-    let v = c.before.before.requires in
+pub joined-requires : goal.joined-requires
+joined-requires c =
+    let v = c.requires in
     let g = good _ v.good-settings in
     let shaped = accepted_shape _ _ v.accepted in (
       rw v.step_is (step_addable _ _ g shaped _ (omega (arith, v.high, v.halves_are))),
-      rw c.step-at.ensures (step_addable _ _ g shaped _ (inside v c.before.if1.false)),
+      rw c.step_at-next.ensures (step_addable _ _ g shaped _ (inside v c.if-k-halves.false)),
     )
 
-returns-2 : tie.Need-returns-2
-returns-2 c =
-    let stepped = c.before in
-    (half_is stepped.before.before.requires stepped.before.if1.false _ _ stepped.step-at.ensures c.joined.ensures, λ l. stepped.step-at.ensures)
-
-pub read-half-spec : {M : Type 1} → statement M
-read-half-spec =
-    tie.close (tie.spec returns add-step-at step-at-requires joined-requires returns-2)
+pub returns : goal.returns
+returns c =
+    (half_is c.requires c.if-k-halves.false _ _ c.step_at-next.ensures c.joined.ensures, λ l. c.step_at-next.ensures)

@@ -1,0 +1,56 @@
+-- The level is computed once, and each visit asks what the pass holds of its kind; the three visits make the turn. Assumes nothing.
+use Prim.Native.Nat.{◌+◌, ◌≤◌}
+use mathlib.Core.Path.{◌≡◌, refl, ap, ◌∙◌}
+use native.Mathlib.Omega.{arith}
+use Rattle.rules.specs.Halves.{half_at}
+use Rattle.rules.proofs.Ranges.{good}
+use Rattle.rules.proofs.Samples.{accepted_recording}
+use Rattle.kinds.specs.declared.Thresholds.{Thresholds}
+use Rattle.kinds.specs.Machine.{level_of}
+use Rattle.kinds.proofs.Machine.{level_is}
+use Rattle.kinds.proofs.Limits.{marked, few-half}
+use Rattle.list.proofs.Turns.{visited-few, visits, turn_made, turn_out}
+use Rattle.list.proofs.turn.Goals.{After-level_at-l, After-visit-a, After-visit-b}
+use Rattle.list.proofs.turn.Goals as goal
+
+-- the level is that of the half-cycle
+level : (c : After-level_at-l)
+    → let a = c.args in c.level_at-l.result ≡ level_of a.s (half_at a.s a.samples.now a.k)
+level c = let v = c.requires in level_is _ _ _ _ _ v.thresholds v.half_is c.level_at-l.ensures
+
+-- and that it gives out one slot at the most
+few : (c : After-visit-a) → c.visit-a.result.n ≤ c.args.p.n + 1
+few c = visited-few _ _ _ _ _ _ _ c.visit-a.ensures.value
+
+few-2 : (c : After-visit-b) → c.visit-b.result.n ≤ c.args.p.n + 2
+few-2 c = omega (arith, visited-few _ _ _ _ _ _ _ c.visit-b.ensures.value, few c.before.before.before.before)
+
+pub level_at-l-requires : goal.level_at-l-requires
+level_at-l-requires c =
+    let v = c.requires in
+    let g = good _ v.good-settings in
+    (rw v.thresholds (marked _ g), rw v.half_is (few-half _ _ g (accepted_recording _ _ v.accepted) _))
+
+pub visit-a-requires : goal.visit-a-requires
+visit-a-requires c =
+    visits c.requires (level (goal.at.visit-a-requires c).After-visit-arg-2-1) (ap (λ (m : Thresholds). m.sag) c.requires.thresholds) c.requires.ready.sag (omega arith) refl
+
+pub visit-b-requires : goal.visit-b-requires
+visit-b-requires c =
+    visits c.requires (level (goal.at.visit-b-requires c).After-visit-a) (ap (λ (m : Thresholds). m.interruption) c.requires.thresholds) c.requires.ready.interruption
+    (omega (arith, few (goal.at.visit-b-requires c).After-slice_known-2-1)) c.visit-a.auto.1.1.1.1.1.1.1.1.1.0
+
+pub visit-c-requires : goal.visit-c-requires
+visit-c-requires c =
+    visits c.requires (level (goal.at.visit-c-requires c).After-slice_known-2-1) (ap (λ (m : Thresholds). m.swell) c.requires.thresholds) c.requires.ready.swell (few-2 (goal.at.visit-c-requires c).After-slice_known-3-1)
+    (c.visit-b.auto.1.1.1.1.1.1.1.1.1.0 ∙ c.visit-a.kept.1.1.1.1.1.1.1.1.1.0)
+
+pub returns-clause-value : goal.returns-clause-value
+returns-clause-value c =
+    let t = c.requires in
+    let l = level (goal.at.returns-clause-value c).After-slice_known-2-1 in turn_made t l c.visit-a.ensures.value c.visit-b.ensures.value c.visit-c.ensures.value
+
+pub returns-clause-out_after : goal.returns-clause-out_after
+returns-clause-out_after c =
+    let t = c.requires in
+    let l = level (goal.at.returns-clause-out_after c).After-slice_known-2-1 in turn_out t l _ _ _ _ c.visit-a.ensures.out_after c.visit-b.ensures.out_after c.visit-c.ensures.out_after
