@@ -19,7 +19,7 @@ told : (c : In-Events)
 told c = counted _ _ _ c.count_events-counted.ensures.value _ c.in-Events.is
 
 -- past the test there is room for all events
-enough : (c : Else-room-total) → total c.before ≤ length c.args.out.now / 11
+enough : (c : Else-room-total) → c.in-Events.total ≤ length c.args.out.now / 11
 enough c = omega (arith, c.if-room-total.false)
 
 pub returns-in_default-clause-value : goal.returns-in_default-clause-value

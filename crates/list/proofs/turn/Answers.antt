@@ -23,7 +23,7 @@ few : (c : After-visit-a) → c.visit-a.result.n ≤ c.args.p.n + 1
 few c = visited-few _ _ _ _ _ _ _ c.visit-a.ensures.value
 
 few-2 : (c : After-visit-b) → c.visit-b.result.n ≤ c.args.p.n + 2
-few-2 c = omega (arith, visited-few _ _ _ _ _ _ _ c.visit-b.ensures.value, few c.before.before.before.before)
+few-2 c = omega (arith, visited-few _ _ _ _ _ _ _ c.visit-b.ensures.value, visited-few _ _ _ _ _ _ _ c.visit-a.ensures.value)
 
 pub level_at-l-requires : goal.level_at-l-requires
 level_at-l-requires c =
@@ -33,24 +33,24 @@ level_at-l-requires c =
 
 pub visit-a-requires : goal.visit-a-requires
 visit-a-requires c =
-    visits c.requires (level (goal.at.visit-a-requires c).After-visit-arg-2-1) (ap (λ (m : Thresholds). m.sag) c.requires.thresholds) c.requires.ready.sag (omega arith) refl
+    visits c.requires (level (goal.at.visit-a-requires c).After-level_at-l) (ap (λ (m : Thresholds). m.sag) c.requires.thresholds) c.requires.ready.sag (omega arith) refl
 
 pub visit-b-requires : goal.visit-b-requires
 visit-b-requires c =
-    visits c.requires (level (goal.at.visit-b-requires c).After-visit-a) (ap (λ (m : Thresholds). m.interruption) c.requires.thresholds) c.requires.ready.interruption
-    (omega (arith, few (goal.at.visit-b-requires c).After-slice_known-2-1)) c.visit-a.auto.1.1.1.1.1.1.1.1.1.0
+    visits c.requires (level (goal.at.visit-b-requires c).After-level_at-l) (ap (λ (m : Thresholds). m.interruption) c.requires.thresholds) c.requires.ready.interruption
+    (omega (arith, few (goal.at.visit-b-requires c).After-visit-a)) c.visit-a.auto.out
 
 pub visit-c-requires : goal.visit-c-requires
 visit-c-requires c =
-    visits c.requires (level (goal.at.visit-c-requires c).After-slice_known-2-1) (ap (λ (m : Thresholds). m.swell) c.requires.thresholds) c.requires.ready.swell (few-2 (goal.at.visit-c-requires c).After-slice_known-3-1)
-    (c.visit-b.auto.1.1.1.1.1.1.1.1.1.0 ∙ c.visit-a.kept.1.1.1.1.1.1.1.1.1.0)
+    visits c.requires (level (goal.at.visit-c-requires c).After-level_at-l) (ap (λ (m : Thresholds). m.swell) c.requires.thresholds) c.requires.ready.swell (few-2 (goal.at.visit-c-requires c).After-visit-b)
+    (c.visit-b.auto.out ∙ c.visit-a.auto.out)
 
 pub returns-clause-value : goal.returns-clause-value
 returns-clause-value c =
     let t = c.requires in
-    let l = level (goal.at.returns-clause-value c).After-slice_known-2-1 in turn_made t l c.visit-a.ensures.value c.visit-b.ensures.value c.visit-c.ensures.value
+    let l = level (goal.at.returns-clause-value c).After-level_at-l in turn_made t l c.visit-a.ensures.value c.visit-b.ensures.value c.visit-c.ensures.value
 
 pub returns-clause-out_after : goal.returns-clause-out_after
 returns-clause-out_after c =
     let t = c.requires in
-    let l = level (goal.at.returns-clause-out_after c).After-slice_known-2-1 in turn_out t l _ _ _ _ c.visit-a.ensures.out_after c.visit-b.ensures.out_after c.visit-c.ensures.out_after
+    let l = level (goal.at.returns-clause-out_after c).After-level_at-l in turn_out t l _ _ _ _ c.visit-a.ensures.out_after c.visit-b.ensures.out_after c.visit-c.ensures.out_after

@@ -15,7 +15,7 @@ here t =
     let a = t.args in
     let l = t.loop-g in
     let e : group_start a.s a.samples.now l.g ≡ 4 * l.g = omega (arith, t.loop-g-test.true, t.requires.2) in
-    subst (λ (k : ℕ). Writing a.s a.samples.now k l.p l.out a.out.now) e l.inv.1
+    subst (λ (k : ℕ). Writing a.s a.samples.now k l.p l.out a.out.now) e l.invariant.1
 
 pub loop-g-init : goal.loop-g-init
 loop-g-init c =

@@ -59,4 +59,4 @@ returns c =
     c.survey_turn.ensures.value c.survey_turn.ensures.cells_after (next (goal.at.returns c).Else-k-halves) c.step_in_range.ensures
 
 pub overflow_add-result : goal.overflow_add-result
-overflow_add-result c = ?
+overflow_add-result c = omega (arith, inside (goal.at.overflow_add-result c).Else-k-halves)

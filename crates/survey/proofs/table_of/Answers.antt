@@ -16,7 +16,7 @@ counted : (t : At-loop-k) → many t ≡ halves_of t.args.s t.args.samples.now
 counted t = t.count_halves-halves.ensures
 
 -- at the end it stands before H
-ended : (e : After-loop-k) → e.loop-k.k ≡ many e.before
+ended : (e : After-loop-k) → e.loop-k.k ≡ e.count_halves-halves.result
 ended e = omega (arith, e.loop-k-test.false, e.loop-k.invariant.0)
 
 pub returns-then-not-step_in_range : goal.returns-then-not-step_in_range
@@ -47,15 +47,15 @@ loop-k-preserved c =
 pub land-landed-requires : goal.land-landed-requires
 land-landed-requires c =
     let v = c.requires in
-    ask_end _ _ _ v.0 v.1 v.2 _ _ _ _ _ (counted (goal.at.land-landed-requires c).After-loop-k) (ended (goal.at.land-landed-requires c).After-track-1) c.loop-k.invariant.1
+    ask_end _ _ _ v.0 v.1 v.2 _ _ _ _ _ (counted (goal.at.land-landed-requires c).At-loop-k) (ended (goal.at.land-landed-requires c).After-loop-k) c.loop-k.invariant.1
 
 pub taken-requires : goal.taken-requires
 taken-requires c =
     let v = c.requires in
-    ask_taken _ _ _ v.0 v.1 v.2 _ _ _ _ _ (counted (goal.at.taken-requires c).After-loop-k) (ended (goal.at.taken-requires c).After-track-1) c.loop-k.invariant.1 _ c.land-landed.ensures.value
+    ask_taken _ _ _ v.0 v.1 v.2 _ _ _ _ _ (counted (goal.at.taken-requires c).At-loop-k) (ended (goal.at.taken-requires c).After-loop-k) c.loop-k.invariant.1 _ c.land-landed.ensures.value
 
 pub returns : goal.returns
 returns c =
     let v = c.requires in
     let l = c.land-landed.ensures in
-    c.taken.ensures ∙ end_made _ _ _ v.0 v.1 v.2 _ _ _ _ _ (counted (goal.at.returns c).After-loop-k) (ended (goal.at.returns c).After-track-1) c.loop-k.invariant.1 _ _ l.0 l.1
+    c.taken.ensures ∙ end_made _ _ _ v.0 v.1 v.2 _ _ _ _ _ (counted (goal.at.returns c).At-loop-k) (ended (goal.at.returns c).After-loop-k) c.loop-k.invariant.1 _ _ l.value l.cells_after
