@@ -15,8 +15,7 @@ use words::{
 };
 
 // Why the event has no score under the set of borders: 0 where it has one.
-#[unsafe(no_mangle)]
-pub extern "C" fn burr_reason(
+pub fn burr_reason(
     n: u64,
     r: u64,
     f: u64,
@@ -47,8 +46,7 @@ pub extern "C" fn burr_reason(
 }
 
 // The event's cell by the set of borders: one above the last where it has no score, and 40 where there is no such set.
-#[unsafe(no_mangle)]
-pub extern "C" fn burr_cell(
+pub fn burr_cell(
     n: u64,
     r: u64,
     f: u64,
@@ -79,8 +77,7 @@ pub extern "C" fn burr_cell(
 }
 
 // The score in the two floats, and 0; or why the event has none under the set of borders, and both floats as they were.
-#[unsafe(no_mangle)]
-pub extern "C" fn burr_score(
+pub fn burr_score(
     n: u64,
     r: u64,
     f: u64,
@@ -124,8 +121,7 @@ pub extern "C" fn burr_score(
 
 // The events of a recording, eleven numbers each, from the front of `events`: 0 and how many there are; or the refusal's number
 // and its place, with nothing else written.
-#[unsafe(no_mangle)]
-pub extern "C" fn burr_list(
+pub fn burr_list(
     n: u64,
     r: u64,
     f: u64,
@@ -157,8 +153,7 @@ pub extern "C" fn burr_list(
 
 // Each half-cycle of a recording, five numbers each, from the front of `halves`: 0 and how many there are; or the refusal's number and
 // its place, with nothing else written.
-#[unsafe(no_mangle)]
-pub extern "C" fn burr_halves(
+pub fn burr_halves(
     n: u64,
     r: u64,
     f: u64,
@@ -189,8 +184,7 @@ pub extern "C" fn burr_halves(
 }
 
 // A fresh table for the settings and the set of borders, and 0; or the refusal's number and its place, and a table of zeros.
-#[unsafe(no_mangle)]
-pub extern "C" fn burr_fresh(
+pub fn burr_fresh(
     n: u64,
     r: u64,
     f: u64,
@@ -216,8 +210,7 @@ pub extern "C" fn burr_fresh(
 }
 
 // The table grown by a recording, and 0; or the refusal's number and its place, and the table as it was.
-#[unsafe(no_mangle)]
-pub extern "C" fn burr_add(table: &mut [u64; 60], samples: &[i32], place: &mut u64) -> u64
+pub fn burr_add(table: &mut [u64; 60], samples: &[i32], place: &mut u64) -> u64
     ensures value { result ≡ number_of_taken (added (table_from table.old) samples.now).answer }
     ensures place_after { place.new ≡ place_of_taken (added (table_from table.old) samples.now).answer }
     ensures table_after { table.new ≡ table_words (added (table_from table.old) samples.now).table }

@@ -5,6 +5,7 @@ ghost use Rattle.std.specs.Prelude.{◌≡◌, length};
 ghost use Rattle.rules.specs.Known.{settings};
 
 use rules::{Refusal, Settings};
+use std::io;
 
 // N 8, R 1,000, f 50, thresholds 90, 10, 110, hysteresis 2.
 pub fn settings() -> Settings
@@ -22,11 +23,11 @@ pub fn settings() -> Settings
 }
 
 // A refusal's number and its place.
-pub fn write_refusal(refusal: Refusal) {
-    print::text(b" refusal");
-    print::number(words::number_of(refusal));
-    print::text(b" at");
-    print::number(words::place_in(refusal));
+pub fn write_refusal(rt: &impl Print, refusal: Refusal) -> io::Result<()> {
+    print::text(rt, b" refusal")?;
+    print::number(rt, words::number_of(refusal))?;
+    print::text(rt, b" at")?;
+    print::number(rt, words::place_in(refusal))
 }
 
 // Eight blocks of four equal samples: values for channel a, and for b and c.

@@ -1,27 +1,25 @@
 // Text and numbers on a program's standard output.
 #![tactic(auto)]
 
-use libc::STDOUT_FILENO;
+use std::io;
 
 // Bytes as they are.
-pub fn text(bytes: &[u8]) {
-    io::write_all(STDOUT_FILENO, bytes);
+pub fn text(rt: &impl Print, bytes: &[u8]) -> io::Result<()> {
+    rt.write_all(bytes)
 }
 
 // A number in decimal, after a space.
-pub fn number(x: u64) {
-    io::write_all(STDOUT_FILENO, b" ");
-    io::print_decimal(STDOUT_FILENO, x);
+pub fn number(rt: &impl Print, x: u64) -> io::Result<()> {
+    print!(rt; " {x}")
 }
 
 // A signed number in decimal, after a space.
-pub fn signed(x: i32) {
+pub fn signed(rt: &impl Print, x: i32) -> io::Result<()> {
     let wide = x as i64;
     if wide < 0 {
-        io::write_all(STDOUT_FILENO, b" -");
-        io::print_decimal(STDOUT_FILENO, (0 - wide) as u64);
+        rt.write_all(b" -")?;
+        rt.print((0 - wide) as u64)
     } else {
-        io::write_all(STDOUT_FILENO, b" ");
-        io::print_decimal(STDOUT_FILENO, wide as u64);
+        number(rt, wide as u64)
     }
 }
