@@ -1,5 +1,5 @@
 #!/usr/bin/env bash
-# `rt staticlib` writes the library for x86-64 only. On another machine this compiles the module that rt hands to its
+# `rt lib` writes the library for x86-64 only. On another machine this compiles the module that rt hands to its
 # compiler, with that compiler and for this machine, into target/native/libburrcradle.a, so that the Rust tests can link it:
 #
 #     host/native.sh && BURRCRADLE_LIB_DIR="$PWD/target/native" cargo test
@@ -27,7 +27,7 @@ exec "$clang" "\$@"
 KEEP
 chmod +x "$native/kit/on/$machine/toolchain/bin/clang"
 
-RATTLE_HOME=$native/kit rt staticlib burrcradle >"$native/log" 2>&1 || { cat "$native/log"; exit 1; }
+(cd crates/burrcradle_c && RATTLE_HOME=$native/kit rt lib) >"$native/log" 2>&1 || { cat "$native/log"; exit 1; }
 "$clang" --target="$machine-unknown-linux-gnu" -Wno-override-module -O3 -fPIC -ffunction-sections -fdata-sections \
     -c -x ir "$native/module.bc" -o "$native/burrcradle.o" 2>>"$native/log" || { cat "$native/log"; exit 1; }
 ar rcs "$native/libburrcradle.a" "$native/burrcradle.o"

@@ -10,7 +10,7 @@ if [ -n "${BURRCRADLE_LIB_DIR:-}" ]; then
     gcc "${warnings[@]}" host/c/known.c "$BURRCRADLE_LIB_DIR/libburrcradle.a" -o target/c/known
     exec target/c/known
 fi
-rt staticlib burrcradle >target/c/staticlib.log 2>&1 || { cat target/c/staticlib.log; exit 1; }
+host/library.sh
 archive=target/staticlib/libburrcradle.a
 if [ "$(uname -m)" = x86_64 ]; then
     gcc "${warnings[@]}" host/c/known.c "$archive" -o target/c/known
