@@ -1798,9 +1798,11 @@ order =
     ∷ add (healthy_only 4000000) (pos 100001 ∷ pos 1000 ∷ pos 1000 ∷ pos 1000 ∷ pos 1000 ∷ [])
     ⟶ refused 2 0 (site (healthy_only 4000000))
     -- C501: a full table, 7 samples per channel, one out of range: 3
-    ∷ add (healthy_only 4000000) (set (alike 7 1000 1000 1000) 0 (pos 100001)) ⟶ refused 3 0 (site (healthy_only 4000000))
+    ∷ add (healthy_only 4000000) (set (alike 7 1000 1000 1000) 0 (pos 100001))
+    ⟶ refused 3 0 (site (healthy_only 4000000))
     -- C502: a full table, 9 samples per channel, one out of range: 4
-    ∷ add (healthy_only 4000000) (set (alike 9 1000 1000 1000) 0 (pos 100001)) ⟶ refused 4 0 (site (healthy_only 4000000))
+    ∷ add (healthy_only 4000000) (set (alike 9 1000 1000 1000) 0 (pos 100001))
+    ⟶ refused 4 0 (site (healthy_only 4000000))
     -- C503: a full table, a sample out of range: 6
     ∷ add (healthy_only 4000000) (set (even 2 1000 ++ even 2 500 ++ even 2 1000) 71 (pos 100001))
     ⟶ refused 6 71 (site (healthy_only 4000000))
@@ -1810,8 +1812,8 @@ order =
 
 -- ---- each half-cycle told: its class, the kinds it lies in, and S of a, b and c
 
-told-classes : List Case
-told-classes =
+told_classes : List Case
+told_classes =
     -- C505: a healthy half-cycle: 1, no kind, and each channel's own sum
     halves house 6 (uneven 2 990 1000 1010) ⟶ told 1 (run (five 1 0 7840800 8000000 8160800 ++ nines 1))
     -- C506: a sag: 2, and 1 for its kind
@@ -1864,8 +1866,8 @@ told_bands =
 
 -- ---- half-cycles on a mark and one unit of S beside it, and the largest sum
 
-told-marks : List Case
-told-marks =
+told_marks : List Case
+told_marks =
     -- C521: a one unit below the sag threshold: a sag
     halves house 6 (weave (quad 1799 59 9 6) (level 4 1000) (level 4 1000) ++ uneven 1 900 1000 1000)
     ⟶ told 1 (run (five 2 1 6479999 8000000 8000000 ++ nines 1))
@@ -1894,8 +1896,8 @@ told-marks =
 
 -- ---- unknown half-cycles: 3, no kind, and sums of 0
 
-told-gaps : List Case
-told-gaps =
+told_gaps : List Case
+told_gaps =
     -- C531: the first sample of all lost, and the last
     halves house 16 (set (set (even 4 1000) 0 lost) 47 lost)
     ⟶ told 3 (run (balanced 3 0 0 ++ balanced 1 0 8000000 ++ balanced 3 0 0 ++ nines 1))
@@ -1917,8 +1919,8 @@ told-gaps =
 
 -- ---- half-cycles that are not told, how far the lent run is written, and the order of refusals
 
-told-refused : List Case
-told-refused =
+told_refused : List Case
+told_refused =
     -- C537: one half-cycle, room 5: all of it written
     halves house 5 (even 2 500) ⟶ told 1 (run (balanced 2 1 2000000))
     -- C538: room 4: 7, at the number of half-cycles
@@ -1960,8 +1962,8 @@ cases =
     sags ++ interruptions ++ swells ++ overlaps ++ marks ++ gaps ++ types ++ nearest ++ durations ++ depths ++ energies
     ++ not_events ++ parts_of_events ++ making ++ sound ++ growing ++ parts_of_tables ++ parts_of_recordings ++ other_columns
     ++ other_rows ++ other_known ++ other_unscored ++ other_making ++ other_unsound ++ other_growing ++ lengths ++ samples
-    ++ rooms ++ order ++ told-classes ++ told_bands ++ told-marks ++ told-gaps ++ told-refused
+    ++ rooms ++ order ++ told_classes ++ told_bands ++ told_marks ++ told_gaps ++ told_refused
 
 case_answers : map asked_again cases ≡ cases
-unfolding answer_to asked_again cases sags interruptions swells overlaps marks gaps types nearest durations depths energies not_events parts_of_events making sound growing parts_of_tables parts_of_recordings other_columns other_rows other_known other_unscored other_making other_unsound other_growing lengths samples rooms order told-classes told_bands told-marks told-gaps told-refused first_bad bad_setting settings_good halves_of any_missing squares sums_at half_at full carries in_run in_event starts end_of seen_of extreme_of earliest climb retained_of shorts_of six_sums type_of event_from event_at events_of in_bounds sag_good is_event reason_of reason_by scoring scoring_by known_set borders_of row_of column_of cell_of is_healthy is_disturbed is_unknown is_placed is_unplaced sag_cell sag_sum sag_short grown is_unsound recording_check settings_check set_check room_check list_check listed written half_words class_at kinds_at trace_of trace_room_check trace_check traced trace_written freshened sound_check full_check add_check added div of_int of_bits
+unfolding answer_to asked_again cases sags interruptions swells overlaps marks gaps types nearest durations depths energies not_events parts_of_events making sound growing parts_of_tables parts_of_recordings other_columns other_rows other_known other_unscored other_making other_unsound other_growing lengths samples rooms order told_classes told_bands told_marks told_gaps told_refused first_bad bad_setting settings_good halves_of any_missing squares sums_at half_at full carries in_run in_event starts end_of seen_of extreme_of earliest climb retained_of shorts_of six_sums type_of event_from event_at events_of in_bounds sag_good is_event reason_of reason_by scoring scoring_by known_set borders_of row_of column_of cell_of is_healthy is_disturbed is_unknown is_placed is_unplaced sag_cell sag_sum sag_short grown is_unsound recording_check settings_check set_check room_check list_check listed written half_words class_at kinds_at trace_of trace_room_check trace_check traced trace_written freshened sound_check full_check add_check added div of_int of_bits
 case_answers = refl

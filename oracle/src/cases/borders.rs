@@ -29,7 +29,7 @@ pub fn columns() -> Section {
     let at_fifty = fifty.iter().map(|&(h, words)| case(HOUSE, h, words));
     let at_sixty = sixty.iter().zip(&fifty).map(|(&h, &(_, words))| case(WIDE, h, words));
     Section {
-        name: "other-columns",
+        name: "other_columns",
         about: "set 1: columns on both sides of every border",
         cases: at_fifty.chain(at_sixty).collect(),
     }
@@ -40,7 +40,7 @@ pub fn rows() -> Section {
     let house = |extreme: u64, words: &str| case(1, HOUSE, extreme, words);
     let ten = |extreme: u64, words: &str| case(1, TEN, extreme, words);
     Section {
-        name: "other-rows",
+        name: "other_rows",
         about: "set 1: rows on both sides of every border",
         cases: vec![
             house(0, "nothing left: row 0"),
@@ -71,7 +71,7 @@ pub fn known() -> Section {
         score_by(1, HOUSE, [kind, start, end, seen, extreme, retained, shortfall, class, a, b, c], words)
     };
     Section {
-        name: "other-known",
+        name: "other_known",
         about: "set 1: the sags of the known answers",
         cases: vec![
             case([1, 1, 4, 3, 2_000_000, 500, 36_000_000, 0], [12_000_000; 3], "K2: cell 11"),
@@ -103,7 +103,7 @@ pub fn unscored() -> Section {
         score_by(2, HOUSE, SWELL, "set 2 and a swell: 6 before 4"),
         score_by(2, HOUSE, with(SAG, &[(of::SEEN, 0)]), "set 2 and both ends unseen: 6 before 3"),
     ];
-    Section { name: "other-unscored", about: "set 1 and unknown sets: what has no score", cases }
+    Section { name: "other_unscored", about: "set 1 and unknown sets: what has no score", cases }
 }
 
 pub fn making() -> Section {
@@ -118,7 +118,7 @@ pub fn making() -> Section {
         fresh_by(2, frequency, "set 2 and f 55: the setting is told"),
         fresh_by(2, hysteresis, "set 2 and hysteresis 6: the setting is told"),
     ];
-    Section { name: "other-making", about: "fresh tables for a set; where it is unknown, zeros", cases }
+    Section { name: "other_making", about: "fresh tables for a set; where it is unknown, zeros", cases }
 }
 
 /// The full table for a set, with its one placed sag in this cell.
@@ -139,7 +139,7 @@ pub fn unused() -> Section {
         offered(brim_by(u64::MAX, 0), "set 2^64 - 1"),
         offered(with(fresh(&HOUSE, 0).1, &[(at::SET, 2)]), "set 2, and nothing in it"),
     ];
-    Section { name: "other-unsound", about: "tables with a sag in an unused cell, and with an unknown set", cases }
+    Section { name: "other_unsound", about: "tables with a sag in an unused cell, and with an unknown set", cases }
 }
 
 pub fn placing() -> Section {
@@ -161,5 +161,5 @@ pub fn placing() -> Section {
         add(full(3_999_996), dip(500), "five half-cycles where there is room for four"),
         add(full(3_999_995), dip(500), "where there is room for five"),
     ];
-    Section { name: "other-growing", about: "what a recording adds to a table for set 1", cases }
+    Section { name: "other_growing", about: "what a recording adds to a table for set 1", cases }
 }

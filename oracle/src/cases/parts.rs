@@ -12,7 +12,7 @@ pub fn events() -> Section {
     let all_on_c = [(of::A, 0), (of::B, 0), (of::C, 12_000_000)];
     let wraps = [(of::A, HALF), (of::B, HALF)];
     Section {
-        name: "parts-of-events",
+        name: "parts_of_events",
         about: "events whose three parts make up the shortfall, and such whose parts don't",
         cases: vec![
             changed(SAG, &all_on_c, "any three parts that make it up will do: all of it c's"),
@@ -41,7 +41,7 @@ pub fn tables() -> Section {
     // Twice this is 5,553,255,926,290,448,384 above 2^64.
     let large = 12_000_000_000_000_000_000;
     Section {
-        name: "parts-of-tables",
+        name: "parts_of_tables",
         about: "tables whose three sums make up the shortfall, and such whose sums don't; a sound one is refused for its samples",
         cases: vec![
             offered(short(brim(HOUSE), [16_000_000; 3]), "any three sums that make it up will do: equal ones"),
@@ -63,7 +63,7 @@ pub fn recordings() -> Section {
     let two = amid(uneven(2, 1000, 600, 300));
     let risen = amid(uneven(2, 700, 1300, 500));
     Section {
-        name: "parts-of-recordings",
+        name: "parts_of_recordings",
         about: "what each channel lacks, straight from the samples, in the list and in the table",
         cases: vec![
             straight(HOUSE, alone(500, 1000, 1000), "a alone is low, K12: three half-cycles of 3, 6 and 3 million"),

@@ -147,7 +147,7 @@ pub fn not_events() -> Section {
         score(bad, with(SAG, &[(of::SEEN, 0)]), "N 9 and a sag with both unseen: settings bad"),
     ]);
     Section {
-        name: "not-events",
+        name: "not_events",
         about: "what is not an event, each condition broken by one; the order of reasons",
         cases,
     }

@@ -173,13 +173,13 @@ fn table_text(table: &Table) -> String {
         return "various".to_string();
     }
     if *table == various_by(1) {
-        return "otherVarious".to_string();
+        return "other_various".to_string();
     }
     if *table == vast([a, b, c]) {
         return format!("vast {a} {b} {c}");
     }
     if *table == healthy_only(total) && total > 0 {
-        return format!("healthyOnly {total}");
+        return format!("healthy_only {total}");
     }
     if table[at::TOTAL..].iter().all(|&number| number == 0) {
         return format!("blank {settings} {set}");

@@ -9,7 +9,7 @@ const RUN: usize = 12;
 pub fn classes() -> Section {
     let over = uneven(2, 1000, 500, 1000) + uneven(1, 1000, 500, 1300) + uneven(2, 1000, 1000, 1300);
     Section {
-        name: "told-classes",
+        name: "told_classes",
         about: "each half-cycle told: its class, the kinds it lies in, and S of a, b and c",
         cases: vec![
             halves(HOUSE, uneven(2, 990, 1000, 1010), "a healthy half-cycle: 1, no kind, and each channel's own sum"),
@@ -27,7 +27,7 @@ pub fn classes() -> Section {
 pub fn bands() -> Section {
     let kept = |first: i32, band: i32| even(1, first) + even(2, band) + even(1, 1000);
     Section {
-        name: "told-bands",
+        name: "told_bands",
         about: "half-cycles within the hysteresis: in an event only where one goes on",
         cases: vec![
             halves(HOUSE, kept(500, 910), "91 percent after 50: still in the sag"),
@@ -48,7 +48,7 @@ pub fn marks() -> Section {
         moved + one_channel(channel, [level; 4], others)
     };
     Section {
-        name: "told-marks",
+        name: "told_marks",
         about: "half-cycles on a mark and one unit of S beside it, and the largest sum",
         cases: vec![
             halves(HOUSE, beside(0, 900, -1, 1000), "a one unit below the sag threshold: a sag"),
@@ -67,7 +67,7 @@ pub fn marks() -> Section {
 
 pub fn gaps() -> Section {
     Section {
-        name: "told-gaps",
+        name: "told_gaps",
         about: "unknown half-cycles: 3, no kind, and sums of 0",
         cases: vec![
             halves(HOUSE, even(4, 1000).lose(0).lose(47), "the first sample of all lost, and the last"),
@@ -89,7 +89,7 @@ pub fn refused() -> Section {
     let dip = || amid(even(2, 500));
     let wild = |samples: usize| alike(samples, 1000, 1000, 1000).put(0, 100_001);
     Section {
-        name: "told-refused",
+        name: "told_refused",
         about: "half-cycles that are not told, how far the lent run is written, and the order of refusals",
         cases: vec![
             halves_into(5, HOUSE, even(2, 500), "one half-cycle, room 5: all of it written"),
