@@ -1,17 +1,11 @@
 -- The boundary's own known answers: what goes in and comes out as numbers, of K2 and of what is turned away, and each number of a table
 -- in its place. The numbers are those of the rules' known answers; the order is that of the rules' sentences.
-use Rattle.std.specs.Prelude.{ℕ, zero, suc, ◌≡◌, refl, List, [], ◌∷◌, ◌++◌, map, replicate, set, length, ℤ, pos, Float}
+use Rattle.std.specs.Prelude.{ℕ, zero, suc, List, [], ◌∷◌, ◌++◌, replicate, set, length, ℤ, pos, Float}
 use Rattle.std.specs.Float.{binary64}
-use Rattle.std.specs.Float.Ieee.{div, of_int, of_bits}
-use Rattle.rules.specs.Recorder.{first_bad, bad_setting, settings_good}
-use Rattle.rules.specs.Halves.{halves_of, any_missing, squares, sums_at, half_at, full}
-use Rattle.rules.specs.Events.{carries, in_run, in_event, starts, end_of, seen_of, extreme_of, earliest, climb, retained_of, shorts_of, six_sums, type_of}
-use Rattle.rules.specs.EventList.{event_from, event_at, events_of}
-use Rattle.rules.specs.Trace.{class_at, kinds_at, half_words, trace_of}
-use Rattle.rules.specs.Scores.{in_bounds, sag_good, is_event, reason_of, reason_by, scoring, scoring_by, reason_number}
-use Rattle.rules.specs.Borders.{known_set, borders_of, row_of, column_of}
-use Rattle.rules.specs.Site.{cell_of, is_healthy, is_disturbed, is_unknown, is_placed, is_unplaced, sag_cell, sag_sum, grown, empty, zero_settings, is_unsound}
-use Rattle.rules.specs.Refusals.{recording_check, settings_check, set_check, room_check, list_check, listed, written, trace_room_check, trace_check, traced, trace_written, freshened, sound_check, full_check, add_check, added}
+use Rattle.std.specs.Float.Ieee.{of_int, of_bits}
+use Rattle.rules.specs.Scores.{reason_by, scoring_by, reason_number}
+use Rattle.rules.specs.Site.{cell_of}
+use Rattle.rules.specs.Refusals.{listed, written, traced, trace_written, freshened, added}
 use Rattle.rules.specs.Known.{dip}
 use Rattle.rules.specs.declared.Settings.{Settings}
 use Rattle.rules.specs.declared.Event.{Event}
@@ -21,7 +15,7 @@ use Rattle.words.specs.Words.{table_words, table_from}
 
 -- ---- what the seven calls hand back
 
-record Scores : Type 0 where
+pub record Scores : Type 0 where
   reason : ℕ
   cell : ℕ
   number : ℕ
@@ -29,7 +23,7 @@ record Scores : Type 0 where
   energy : Float
 
 -- `burr_reason`, `burr_cell` and `burr_score`, the two floats lent as 9
-scores_of : Settings → ℕ → Event → Scores
+unfoldable pub scores_of : Settings → ℕ → Event → Scores
 scores_of s set e =
     record {
       reason = reason_by s set e;
@@ -42,13 +36,13 @@ scores_of s set e =
     nine : Float
     nine = of_int binary64 (pos 9)
 
-record Lists : Type 0 where
+pub record Lists : Type 0 where
   number : ℕ
   answer : ℕ
   events : List ℕ
 
 -- `burr_list`, into a lent run
-lists_of : Settings → List ℤ → List ℕ → Lists
+unfoldable pub lists_of : Settings → List ℤ → List ℕ → Lists
 lists_of s xs out =
     record {
       number = number_of_listed (listed s xs (length out));
@@ -56,13 +50,13 @@ lists_of s xs out =
       events = written s xs out;
     }
 
-record Traces : Type 0 where
+pub record Traces : Type 0 where
   number : ℕ
   answer : ℕ
   halves : List ℕ
 
 -- `burr_halves`, into a lent run
-traces_of : Settings → List ℤ → List ℕ → Traces
+unfoldable pub traces_of : Settings → List ℤ → List ℕ → Traces
 traces_of s xs out =
     record {
       number = number_of_traced (traced s xs (length out));
@@ -70,13 +64,13 @@ traces_of s xs out =
       halves = trace_written s xs out;
     }
 
-record Tables : Type 0 where
+pub record Tables : Type 0 where
   number : ℕ
   place : ℕ
   table : List ℕ
 
 -- `burr_fresh`, and `burr_add` to 60 lent numbers
-fresh_of : Settings → ℕ → Tables
+unfoldable pub fresh_of : Settings → ℕ → Tables
 fresh_of s set =
     record {
       number = number_of_taken (freshened s set).answer;
@@ -84,7 +78,7 @@ fresh_of s set =
       table = table_words (freshened s set).table;
     }
 
-adds_to : Table → List ℤ → Tables
+unfoldable pub adds_to : Table → List ℤ → Tables
 adds_to t xs =
     record {
       number = number_of_taken (added t xs).answer;
@@ -95,7 +89,7 @@ adds_to t xs =
 -- ---- the answers
 
 -- the settings of the known answers, and such with a frequency of 55
-abbrev good : Settings
+abbrev pub good : Settings
 good = settings_from 8 1000 50 90 10 110 2
 
 abbrev bad : Settings
@@ -110,7 +104,7 @@ spoilt = set k2 5 (pos 100001)
 
 -- the 60 numbers of a fresh table of a set, and those after K2: the settings and the set; 5 half-cycles, 2 healthy, 3 disturbed,
 -- 0 unknown; one sag in its cell by that set; unplaced, sags, interruptions, swells, shortfall, and that of each channel
-abbrev fresh : ℕ → List ℕ
+abbrev pub fresh : ℕ → List ℕ
 fresh borders = 8 ∷ 1000 ∷ 50 ∷ 90 ∷ 10 ∷ 110 ∷ 2 ∷ borders ∷ replicate 52 0
 
 abbrev after_k2 : (borders cell : ℕ) → List ℕ
@@ -141,7 +135,7 @@ counting =
       parts = record { a = 58; b = 59; c = 60 };
     }
 
-record Answers : Type 0 where
+pub record Answers : Type 0 where
   scored : List Scores
   lists : List Lists
   traces : List Traces
@@ -150,7 +144,7 @@ record Answers : Type 0 where
   table : Table
 
 -- `table` and `other` are what the numbers of the fresh tables of set 0 and set 1 stand for, `zeros` what 60 zeros do
-asked_of : (table other zeros : Table) → Answers
+unfoldable pub asked_of : (table other zeros : Table) → Answers
 asked_of table other zeros =
     record {
       -- K2's sag by set 0 and by set 1; the same with its start unseen, by both; with end and start in each other's place; under
@@ -194,7 +188,7 @@ asked_of table other zeros =
       table = table_from (from 1 60);
     }
 
-answers : Answers
+unfoldable pub answers : Answers
 answers =
     record {
       scored =
@@ -263,19 +257,3 @@ answers =
           severity = of_bits binary64 0x4022_0000_0000_0000;
           energy = of_bits binary64 0x4022_0000_0000_0000;
         }
-
--- computed of the three tables as the rules make them, then said of their numbers
-computed : asked_of (empty good 0) (empty good 1) (empty zero_settings 0) ≡ answers
-unfolding asked_of answers scores_of lists_of traces_of fresh_of adds_to table_words table_from first_bad bad_setting settings_good halves_of any_missing squares sums_at half_at full carries in_run in_event starts end_of seen_of extreme_of earliest climb retained_of shorts_of six_sums type_of event_from event_at events_of in_bounds sag_good is_event reason_of reason_by scoring scoring_by known_set borders_of row_of column_of cell_of is_healthy is_disturbed is_unknown is_placed is_unplaced sag_cell sag_sum grown is_unsound recording_check settings_check set_check room_check list_check listed written class_at kinds_at half_words trace_of trace_room_check trace_check traced trace_written freshened sound_check full_check add_check added div of_int of_bits
-computed = refl
-
-fresh_is : (borders : ℕ) → table_from (fresh borders) ≡ empty good borders
-unfolding table_from
-fresh_is borders = refl
-
-zeros_are : table_from (replicate 60 0) ≡ empty zero_settings 0
-unfolding table_from
-zeros_are = refl
-
-boundary_answers : asked_of (table_from (fresh 0)) (table_from (fresh 1)) (table_from (replicate 60 0)) ≡ answers
-boundary_answers = rw (fresh_is 0, fresh_is 1, zeros_are) computed
