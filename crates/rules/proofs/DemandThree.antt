@@ -3,26 +3,26 @@
 -- unsound. Assumes nothing.
 use Prim.Native.Nat.{ℕ, zero, suc, ◌+◌, ◌-◌, ◌*◌, ◌≤◌, ◌<◌}
 use mathlib.Core.Path.{◌≡◌, refl, sym, ap, subst, ◌∙◌}
-use mathlib.Core.Bool.{Bool, true, false, not, ◌&&◌, ◌||◌, cond, false≢true}
+use mathlib.Core.Bool.{Bool, true, false, not, ◌&&◌, cond, false≢true}
 use mathlib.Core.List.{List, [], ◌∷◌}
 use mathlib.Core.Logic.{⊎_elim}
 use native.Mathlib.Nat.{mul-add, mul_assoc, mul_comm}
 use native.Mathlib.Omega.{arith}
-use borrow.Author.Tests.{ltb-false, le-ltb, eqb-true, eq-eqb, not-false}
-use lib.Dec.{ltb, eqb}
+use borrow.Author.Tests.{ltb-false, eqb-true}
+use lib.Dec.{ltb}
 use lib.IntN.{ℤ}
 use lib.ListN.{length, get_or, get_or-replicate}
 use lib.Seq.{ext_get_or}
 use Rattle.rules.specs.Bounded.{count, sum}
 use Rattle.rules.specs.Recorder.{bad_setting, settings_good}
 use Rattle.rules.specs.Halves.{of_channel, squares, half_at, halves_of, full, below}
-use Rattle.rules.specs.Events.{in_event, starts, end_of, start_seen, end_seen, seen_of, short_of, three, make_up}
+use Rattle.rules.specs.Events.{in_event, starts, end_of, start_seen, end_seen, seen_of, short_of, three}
 use Rattle.rules.specs.EventList.{event_from}
-use Rattle.rules.specs.Borders.{Borders, known_set, borders_of, cells_in}
+use Rattle.rules.specs.Borders.{known_set, borders_of, cells_in}
 use Rattle.rules.specs.Scores.{reason_by}
-use Rattle.rules.specs.Site.{cell_of, is_healthy, is_disturbed, is_unknown, is_placed, is_unplaced, sag_cell, sag_sum, sag_short, sag_shorts, cells_from, grown, cells, empty, zero_settings, total, most_halves, unused_zero, is_unsound}
+use Rattle.rules.specs.Site.{cell_of, is_healthy, is_disturbed, is_unknown, is_placed, is_unplaced, sag_cell, sag_sum, sag_short, sag_shorts, cells_from, grown, cells, empty, zero_settings, total, most_halves, is_unsound}
 use Rattle.rules.specs.Refusals.{recording_check, settings_check, set_check, by_check, and_then, freshened, sound_check, full_check, add_check, added}
-use Rattle.rules.specs.Demands.{Scorable, offer, taken, admits, admitted, sum_over, placed_in, Sound, SumsUp}
+use Rattle.rules.specs.Demands.{Scorable, offer, taken, admits, admitted, sum_over, placed_in, SumsUp}
 use Rattle.rules.specs.declared.Settings.{Settings}
 use Rattle.rules.specs.declared.Kind.TheVariants.{Sag, Interruption, Swell}
 use Rattle.rules.specs.declared.Table.{Table}
@@ -30,14 +30,15 @@ use Rattle.rules.specs.declared.Refusal.{Refusal}
 use Rattle.rules.specs.declared.Refusal.TheVariants.{Setting, Full, Unsound}
 use Rattle.rules.specs.declared.Taken.{Taken}
 use Rattle.rules.specs.declared.Taken.TheVariants.{Accepted, Refused}
-use Rattle.rules.proofs.Booleans.{both, neither}
+use Rattle.rules.proofs.Booleans.{both}
 use Rattle.rules.proofs.Borders.{unused-none, cells-make_up, set-cells}
-use Rattle.rules.proofs.Bounded.{all_true, all-at, count_le, sum_same}
-use Rattle.rules.proofs.Choices.{of_cond, or_by, or_else, lower}
+use Rattle.rules.proofs.Bounded.{count_le, sum_same}
+use Rattle.rules.proofs.Choices.{of_cond, lower}
 use Rattle.rules.proofs.Classes.{three-classes, placed_or_not}
 use Rattle.rules.proofs.DemandTwo.{short-high, event_passes, reason_of_lem, seen_both_lem}
 use Rattle.rules.proofs.Ranges.{good}
 use Rattle.rules.proofs.Samples.{accepted_recording, sum_le, goes_on_lem, both_accept}
+use Rattle.rules.proofs.Soundness.{sound-parts, sound_made}
 use Rattle.rules.proofs.Shortfall.{of_channels, parts_agree, total_made_up, shortfalls_agree}
 
 -- a refused recording changes nothing
@@ -97,74 +98,6 @@ cells-sum g (c ∷ cs) i =
     let same = sum_same (λ j. g (suc i + j)) (λ j. g (i + suc j)) (length cs) (λ j l. ap g (omega arith)) in
     let at : g (i + 0) ≡ g i = ap g (omega arith) in
     omega (arith, cells-sum g cs (suc i))
-
--- ---- sound tables
-
-none_of : (a b c d e f g h i j k : Bool) → a || b || c || d || e || f || (g || h || i) || j || k ≡ false
-    → (a ≡ false) × (b ≡ false) × (c ≡ false) × (d ≡ false) × (e ≡ false) × (f ≡ false) × (g ≡ false) × (h ≡ false) × (i ≡ false) × (j ≡ false) × (k ≡ false)
-none_of a b c d e f g h i j k q =
-    let x = neither (a || b || c || d || e || f || (g || h || i) || j) k q in
-    let y = neither (a || b || c || d || e || f || (g || h || i)) j x.0 in
-    let z = neither (a || b || c || d || e || f) (g || h || i) y.0 in
-    let r = neither (a || b || c || d || e) f z.0 in
-    let s = neither (a || b || c || d) e r.0 in
-    let u = neither (a || b || c) d s.0 in
-    let v = neither (a || b) c u.0 in
-    let w = neither a b v.0 in
-    let m = neither (g || h) i z.1 in
-    let l = neither g h m.0 in
-    (w.0, w.1, v.1, u.1, s.1, r.1, l.0, l.1, m.1, y.1, x.1)
-
--- the cells that some borders don't use are 0
-module _ (b : Borders) (cs : List ℕ) where
-  pub unused_zero_lem : unused_zero b cs ≡ true → (i : ℕ) → cells_in b ≤ i → i < cells → get_or cs i 0 ≡ 0
-  unused_zero_lem h i l u =
-      let q = all-at (λ i. ltb i (cells_in b) || eqb (get_or cs i 0) 0) cells h i u in
-      eqb-true (get_or cs i 0) 0 (or_else (ltb i (cells_in b)) (eqb (get_or cs i 0) 0) q (le-ltb i (cells_in b) l))
-
-  pub zero_unused : ((i : ℕ) → cells_in b ≤ i → i < cells → get_or cs i 0 ≡ 0) → unused_zero b cs ≡ true
-  zero_unused h =
-      all_true (λ i. ltb i (cells_in b) || eqb (get_or cs i 0) 0) cells
-      (λ i u. or_by (ltb i (cells_in b)) (eqb (get_or cs i 0) 0) (λ e. eq-eqb (get_or cs i 0) 0 (h i (ltb-false i (cells_in b) e) u)))
-
-pub sound-parts : (t : Table) → is_unsound t ≡ false → Sound t
-unfolding is_unsound
-sound-parts t h =
-    let b = borders_of t.settings t.set in
-    let p =
-    none_of (not (settings_good t.settings)) (not (known_set t.set)) (ltb most_halves t.total) (not (eqb (t.healthy + t.disturbed + t.unknown) t.total))
-    (not (eqb (total t.cells + t.unplaced) t.sags)) (not (unused_zero b t.cells)) (ltb t.total t.sags) (ltb t.total t.interruptions) (ltb t.total t.swells)
-    (ltb (3 * full t.settings * t.total) t.shortfall) (not (make_up t.parts t.shortfall)) h in
-    record {
-      good-settings = not-false (settings_good t.settings) p.0;
-      set_known = not-false (known_set t.set) p.1;
-      total-high = ltb-false most_halves t.total p.2;
-      classes = eqb-true (t.healthy + t.disturbed + t.unknown) t.total (not-false (eqb (t.healthy + t.disturbed + t.unknown) t.total) p.3);
-      places = eqb-true (total t.cells + t.unplaced) t.sags (not-false (eqb (total t.cells + t.unplaced) t.sags) p.4);
-      unused = unused_zero_lem b t.cells (not-false (unused_zero b t.cells) p.5);
-      sags-high = ltb-false t.total t.sags p.6;
-      interruptions-high = ltb-false t.total t.interruptions p.7;
-      swells-high = ltb-false t.total t.swells p.8;
-      shortfall-high = ltb-false (3 * full t.settings * t.total) t.shortfall p.9;
-      parts = eqb-true (three t.parts) t.shortfall (not-false (make_up t.parts t.shortfall) p.10);
-    }
-
-pub sound_made : (t : Table) → Sound t → is_unsound t ≡ false
-unfolding is_unsound
-sound_made t r =
-    rw (
-      r.good-settings,
-      r.set_known,
-      le-ltb most_halves t.total r.total-high,
-      eq-eqb (t.healthy + t.disturbed + t.unknown) t.total r.classes,
-      eq-eqb (total t.cells + t.unplaced) t.sags r.places,
-      zero_unused (borders_of t.settings t.set) t.cells r.unused,
-      le-ltb t.total t.sags r.sags-high,
-      le-ltb t.total t.interruptions r.interruptions-high,
-      le-ltb t.total t.swells r.swells-high,
-      le-ltb (3 * full t.settings * t.total) t.shortfall r.shortfall-high,
-      eq-eqb (three t.parts) t.shortfall r.parts,
-    )
 
 -- ---- an accepted recording keeps a table sound
 

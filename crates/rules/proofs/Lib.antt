@@ -14,6 +14,8 @@ pub mod Samples
 pub mod Retained
 pub mod Scorable
 pub mod DemandTwo
+pub mod Unused
+pub mod Soundness
 pub mod DemandThree
 pub mod Channels
 pub mod Exclusive

@@ -23,7 +23,9 @@ use Rattle.rules.proofs.Booleans.{cases, both, and_true, neither, not_both}
 use Rattle.rules.proofs.Choices.{lower}
 use Rattle.rules.proofs.Ranges.{good, full-high}
 use Rattle.rules.specs.Demands.{Sound}
-use Rattle.rules.proofs.DemandThree.{cells-length, cells_at_lem, unused_zero_lem, zero_unused, sound-parts, sound_made, grown-sound}
+use Rattle.rules.proofs.Unused.{unused_zero_lem, zero_unused}
+use Rattle.rules.proofs.Soundness.{sound-parts, sound_made}
+use Rattle.rules.proofs.DemandThree.{cells-length, cells_at_lem, grown-sound}
 use Rattle.rules.specs.declared.Table.{Table}
 use Rattle.rules.specs.declared.Refusal.{Refusal}
 use Rattle.rules.specs.declared.Refusal.TheVariants.{Full, Unsound}

@@ -1,7 +1,7 @@
 -- The pass over the recording answers what the checks do: where they accept it, its table is added. Assumes nothing.
 use mathlib.Core.Path.{◌≡◌}
 use lib.ListN.{length}
-use Rattle.rules.proofs.DemandThree.{sound-parts}
+use Rattle.rules.proofs.Soundness.{sound-parts}
 use Rattle.site.proofs.Counts.{pass_adding, pass-added, pass-turned}
 use Rattle.site.proofs.add_shaped.Goals.{Start}
 use borrow.Author.Rules.{rules}
