@@ -13,13 +13,13 @@ trap 'rm -rf "$work"' EXIT
 # the parts of a scratch crate `rules`: with its laws, or without them and with the cases, which are a crate of their own in the tree
 lay() { # NAME
     local crate=$work/$1/crates/rules
-    rm -rf "$crate"
+    rm -rf "$crate"/{src,specs,proofs}
     mkdir -p "$crate"
     cp -R "$root/crates/rules/src" "$root/crates/rules/specs" "$crate/"
     if [ "$1" = laws ]; then
         cp -R "$root/crates/rules/proofs" "$crate/"
     else
-        sed 's/Rattle·rules\.specs/Rattle·rules·specs.specs/' "$root/crates/answers/specs/Cases.antt" >"$crate/specs/Cases.antt"
+        cp "$root/crates/answers/specs/Cases.antt" "$crate/specs/"
         echo 'pub mod Cases' >>"$crate/specs/Lib.antt"
     fi
     echo rules: >"$work/$1/crates.txt"
@@ -50,7 +50,7 @@ apply() { # EDIT CRATE
 refusers() { # EDIT NAME
     local crate=$work/$2/crates/rules
     apply "$1" "$crate"
-    (cd "$work/$2" && rt dev rules) >"$work/$2.log" 2>&1 || true
+    (cd "$crate" && rt check) >"$work/$2.log" 2>&1 || true
     lay "$2"
     if grep -q '^logic=not-proved' "$work/$2.log"; then
         { grep -vE 'was not admitted|is not admitted' "$work/$2.log" || true; } |
@@ -71,7 +71,7 @@ awk -v into="$work/edits" 'BEGIN { RS = ""; FS = "\n" }
     { first = 1; while (first <= NF && $first ~ /^#/) first++ }
     first <= NF { file = into "/" $first; for (i = first + 1; i <= NF; i++) print $i >file; close(file); print $first }' \
     "$here/faults.txt" >>"$work/labels"
-for scratch in answers laws; do (cd "$work/$scratch" && rt dev rules) >"$work/log" 2>&1 && grep -q '^logic=proved' "$work/log"; done
+for scratch in answers laws; do (cd "$work/$scratch/crates/rules" && rt check) >"$work/log" 2>&1 && grep -q '^logic=proved' "$work/log"; done
 while read -r label; do
     if [ $# -gt 0 ]; then case " $* " in *" $label "*) ;; *) continue ;; esac fi
     edit=$work/edits/$label
