@@ -2,12 +2,12 @@
 """Brings the repository's own definitions and lemmas to the spelling of the kit of 2026-11: words in snake case.
 
 usage: python3 tools/spelling.py            at the top, once, after the kit's port.py
-       python3 tools/spelling.py --table    prints the old and the new names, and those that fall together, and writes nothing
+       python3 tools/spelling.py --table    prints the old and the new names, and writes nothing
 
-A definition in camel case (`settingsGood`) gets underscores (`settings_good`). A lemma with dashes keeps a dash where it joins two
-names of definitions (`flat-length`), and gets underscores else (`rest_at`). Types, facts and modules keep their names, and so do
-functions of src/, their fields, and whatever Rattle makes. Names in backticks turn in documents and comments, and words of the
-planted definitions and of the must-fail edits turn where the text they stand in has turned.
+A definition in camel case (`settingsGood`) gets underscores (`settings_good`). A lemma with dashes keeps them where each part is the
+name of a definition (`flat-length`), and gets underscores else (`rest_at`); one that would have its definition's name ends in
+`_lem`. Types, facts and modules keep their names, and so do functions of src/, their fields, and whatever Rattle makes. Only .antt
+and .rt files turn: pages and must-fail edits were brought over apart.
 """
 
 import collections
