@@ -3,7 +3,7 @@
 use std::{
     fs,
     io::Write,
-    path::{Path, PathBuf},
+    path::PathBuf,
     process::{Command, Stdio},
 };
 
@@ -15,7 +15,7 @@ pub const KNOWN: [&str; 6] = ["--n", "8", "--r", "1000", "--f", "50"];
 /// The value that means "missing".
 pub const MISSING: i32 = i32::MIN;
 
-/// A folder for one test, empty at its start.
+/// A folder for one test, empty at its start and gone at its end. It stands outside the checkout, in which `rt ci` takes no links.
 pub struct Folder(pub PathBuf);
 
 /// How a run of the program ended.
@@ -28,7 +28,7 @@ pub struct Ran {
 
 impl Folder {
     pub fn new(name: &str) -> Folder {
-        let path = Path::new(env!("CARGO_TARGET_TMPDIR")).join(name);
+        let path = std::env::temp_dir().join(format!("burrcradle-test-{name}-{}", std::process::id()));
         let _ = fs::remove_dir_all(&path);
         fs::create_dir_all(&path).unwrap();
         Folder(path)
@@ -107,6 +107,15 @@ impl Folder {
     /// The events of a recording: their eleven numbers, reason and cell; severity and energy as they are written.
     pub fn events(&self, file: &str, more: &[&str]) -> Vec<(Vec<u64>, String)> {
         listed(&self.accepted(&[&["list", file, "--csv"][..], &KNOWN, more].concat()))
+    }
+}
+
+impl Drop for Folder {
+    /// What a failed test has left stays, to be looked at.
+    fn drop(&mut self) {
+        if !std::thread::panicking() {
+            let _ = fs::remove_dir_all(&self.0);
+        }
     }
 }
 
