@@ -9,7 +9,7 @@
 --
 -- The questions are in oracle/src/cases. A test of oracle/ holds the file to what the second program writes, so that no number in
 -- it is changed by hand, and puts the same questions to the proved library.
-use Rattle.std.specs.Prelude.{ℕ, zero, suc, ◌*◌, ◌/◌, ◌≡◌, refl, List, [], ◌∷◌, ◌++◌, map, replicate, set, ℤ, pos, negsuc, neg_ℤ}
+use Rattle.std.specs.Prelude.{ℕ, zero, suc, ◌-◌, ◌*◌, ◌/◌, ◌≡◌, refl, List, [], ◌∷◌, ◌++◌, map, replicate, set, get_or, ℤ, pos, negsuc, neg_ℤ, Result, Ok, Err, ⊤}
 use Rattle.std.specs.Float.{binary64}
 use Rattle.std.specs.Float.Ieee.{div, of_int, of_bits}
 use Rattle.rules.specs.Recorder.{first_bad, bad_setting, settings_good}
@@ -18,20 +18,16 @@ use Rattle.rules.specs.Events.{carries, in_run, in_event, starts, end_of, seen_o
 use Rattle.rules.specs.EventList.{event_from, event_at, events_of}
 use Rattle.rules.specs.Trace.{class_at, kinds_at, half_words, trace_of}
 use Rattle.rules.specs.Borders.{known_set, borders_of, row_of, column_of}
-use Rattle.rules.specs.Scores.{in_bounds, sag_good, is_event, reason_of, reason_by, scoring, scoring_by}
+use Rattle.rules.specs.Scores.{in_bounds, sag_good, is_event, why_of, why_by, reason_of, reason_by, scoring, scoring_by}
 use Rattle.rules.specs.Site.{cell_of, is_healthy, is_disturbed, is_unknown, is_placed, is_unplaced, sag_cell, sag_sum, sag_short, grown, is_unsound}
 use Rattle.rules.specs.Refusals.{number_of, place_in, recording_check, settings_check, set_check, room_check, list_check, listed, written, trace_room_check, trace_check, traced, trace_written, freshened, sound_check, full_check, add_check, added}
 use Rattle.rules.specs.declared.Settings.{Settings}
 use Rattle.rules.specs.declared.Event.{Event}
 use Rattle.rules.specs.declared.Table.{Table}
-use Rattle.rules.specs.declared.Scoring.{Scoring}
-use Rattle.rules.specs.declared.Scoring.TheVariants.{Scored, Unscored}
-use Rattle.rules.specs.declared.Taken.{Taken}
-use Rattle.rules.specs.declared.Taken.TheVariants.{Accepted, Refused}
-use Rattle.rules.specs.declared.Listed.{Listed}
-use Rattle.rules.specs.declared.Listed.TheVariants.{Events, Turned}
-use Rattle.rules.specs.declared.Traced.{Traced}
-use Rattle.rules.specs.declared.Traced.TheVariants.{Halves, Untraced}
+use Rattle.rules.specs.declared.Refusal.{Refusal}
+use Rattle.rules.specs.declared.Score.{Score}
+use Rattle.rules.specs.declared.Reason.{Reason}
+use Rattle.rules.specs.declared.Reason.TheVariants.{StartUnseen, EndUnseen, BothUnseen, NotASag, NotAnEvent, BadSettings}
 
 -- ---- questions and answers
 
@@ -58,7 +54,7 @@ data Answer : Type 0 where
   told : ℕ → Lent → Answer
   taken : Lent → Answer
   refused : (number place : ℕ) → Lent → Answer
-  judged : (reason : ℕ) → Scoring → (cell : ℕ) → Answer
+  judged : (reason : ℕ) → Result Score Reason → (cell : ℕ) → Answer
   sums : List ℕ → Answer
 
 infix 70 ◌⟶◌
@@ -68,17 +64,17 @@ data Case : Type 0 where
 abbrev nines : ℕ → List ℕ
 nines n = replicate n 9
 
-abbrev told_of_list : Listed → Lent → Answer
-told_of_list (Events n) holds = events n holds
-told_of_list (Turned r) holds = refused (number_of r) (place_in r) holds
+abbrev told_of_list : Result ℕ Refusal → Lent → Answer
+told_of_list (Ok n) holds = events n holds
+told_of_list (Err r) holds = refused (number_of r) (place_in r) holds
 
-abbrev told_of_trace : Traced → Lent → Answer
-told_of_trace (Halves n) holds = told n holds
-told_of_trace (Untraced r) holds = refused (number_of r) (place_in r) holds
+abbrev told_of_trace : Result ℕ Refusal → Lent → Answer
+told_of_trace (Ok n) holds = told n holds
+told_of_trace (Err r) holds = refused (number_of r) (place_in r) holds
 
-abbrev told_of_site : Taken → Lent → Answer
-told_of_site Accepted holds = taken holds
-told_of_site (Refused r) holds = refused (number_of r) (place_in r) holds
+abbrev told_of_site : Result ⊤ Refusal → Lent → Answer
+told_of_site (Ok _) holds = taken holds
+told_of_site (Err r) holds = refused (number_of r) (place_in r) holds
 
 -- what the rules say
 answer_to : Asked → Answer
@@ -149,13 +145,16 @@ five class kinds a b c = class ∷ kinds ∷ a ∷ b ∷ c ∷ []
 abbrev balanced : (class kinds sum : ℕ) → List ℕ
 balanced class kinds sum = five class kinds sum sum sum
 
--- a score by the bits of its two floats, and its cell; a reason, and the cell beside it
+-- a score by the bits of its two floats, and its cell; a reason by its number, from 1 on, and the cell beside it
 abbrev scored : (severity energy cell : ℕ) → Answer
 scored severity energy cell =
-    judged 0 (Scored (record { severity = of_bits binary64 severity; energy = of_bits binary64 energy })) cell
+    judged 0 (Ok (record { severity = of_bits binary64 severity; energy = of_bits binary64 energy })) cell
+
+abbrev reasons : List Reason
+reasons = StartUnseen ∷ EndUnseen ∷ BothUnseen ∷ NotASag ∷ NotAnEvent ∷ BadSettings ∷ []
 
 abbrev unscored : (reason cell : ℕ) → Answer
-unscored reason cell = judged reason (Unscored reason) cell
+unscored reason cell = judged reason (Err (get_or reasons (reason - 1) BadSettings)) cell
 
 abbrev table :
     Settings
@@ -1965,5 +1964,5 @@ cases =
     ++ rooms ++ order ++ told_classes ++ told_bands ++ told_marks ++ told_gaps ++ told_refused
 
 case_answers : map asked_again cases ≡ cases
-unfolding answer_to asked_again cases sags interruptions swells overlaps marks gaps types nearest durations depths energies not_events parts_of_events making sound growing parts_of_tables parts_of_recordings other_columns other_rows other_known other_unscored other_making other_unsound other_growing lengths samples rooms order told_classes told_bands told_marks told_gaps told_refused first_bad bad_setting settings_good halves_of any_missing squares sums_at half_at full carries in_run in_event starts end_of seen_of extreme_of earliest climb retained_of shorts_of six_sums type_of event_from event_at events_of in_bounds sag_good is_event reason_of reason_by scoring scoring_by known_set borders_of row_of column_of cell_of is_healthy is_disturbed is_unknown is_placed is_unplaced sag_cell sag_sum sag_short grown is_unsound recording_check settings_check set_check room_check list_check listed written half_words class_at kinds_at trace_of trace_room_check trace_check traced trace_written freshened sound_check full_check add_check added div of_int of_bits
+unfolding answer_to asked_again cases sags interruptions swells overlaps marks gaps types nearest durations depths energies not_events parts_of_events making sound growing parts_of_tables parts_of_recordings other_columns other_rows other_known other_unscored other_making other_unsound other_growing lengths samples rooms order told_classes told_bands told_marks told_gaps told_refused first_bad bad_setting settings_good halves_of any_missing squares sums_at half_at full carries in_run in_event starts end_of seen_of extreme_of earliest climb retained_of shorts_of six_sums type_of event_from event_at events_of in_bounds sag_good is_event why_of why_by reason_of reason_by scoring scoring_by known_set borders_of row_of column_of cell_of is_healthy is_disturbed is_unknown is_placed is_unplaced sag_cell sag_sum sag_short grown is_unsound recording_check settings_check set_check room_check list_check listed written half_words class_at kinds_at trace_of trace_room_check trace_check traced trace_written freshened sound_check full_check add_check added div of_int of_bits
 case_answers = refl

@@ -1,53 +1,149 @@
 // The borders of cells: which sets of them there are, and the cell of an extreme and a duration by a set.
 #![tactic(auto)]
 
-ghost use Rattle.std.specs.Prelude.{◌≡◌, true, suc, ◌+◌, ◌-◌, ◌*◌, ◌≤◌, leb, ltb, length, get_or};
+ghost use Rattle.std.specs.Prelude.{◌≡◌, true, suc, ◌+◌, ◌*◌, ◌≤◌, leb, ltb, length};
+ghost use Rattle.std.specs.List.{All, prefix_len};
 ghost use Rattle.rules.specs.Recorder.{settings_good};
-ghost use Rattle.rules.specs.Borders.{known_set, borders_of, place_of, row_of, column_of, cell_at};
+ghost use Rattle.rules.specs.Borders.{known_set, borders_of, cell_at};
 ghost use Rattle.rules.specs.Site.{not_scored};
 ghost use Rattle.rules.specs.Refusals.{set_check};
-ghost use Rattle.borders.specs.Lists.{all_below, cut, fifths_at};
+ghost use Rattle.borders.specs.Lists.{at_frequency};
 
 use checks::full_of;
-use rules::{Refusal, Settings, Taken};
+use rules::{Refusal, Settings};
 
-// The borders of all sets, one set after another: of rows in percent of R, of columns in fifths of a half-cycle, so many of them and so
-// many times f.
-const ROWS: [u64; 8] = [10, 40, 70, 85, 10, 40, 70, 80];
+// A border of columns: so many fifths of a half-cycle, and so many times f.
+#[derive(Clone, Copy)]
+struct Border {
+    fifths: u64,
+    times: u64,
+}
 
-const FIFTHS: [u64; 11] = [10, 0, 0, 0, 0, 0, 0, 10, 0, 0, 0];
+// The borders of a set: of rows in percent of R, and of columns.
+#[derive(Clone, Copy)]
+struct Borders {
+    rows: &'static [u64],
+    columns: &'static [Border],
+}
 
-const TIMES: [u64; 11] = [0, 1, 5, 10, 30, 200, 600, 0, 2, 5, 50];
+// Set 0.
+const UNIPEDE: Borders = Borders {
+    rows: &[10, 40, 70, 85],
+    columns: &[
+        Border {
+            fifths: 10,
+            times: 0,
+        },
+        Border {
+            fifths: 0,
+            times: 1,
+        },
+        Border {
+            fifths: 0,
+            times: 5,
+        },
+        Border {
+            fifths: 0,
+            times: 10,
+        },
+        Border {
+            fifths: 0,
+            times: 30,
+        },
+        Border {
+            fifths: 0,
+            times: 200,
+        },
+        Border {
+            fifths: 0,
+            times: 600,
+        },
+    ],
+};
 
-// Where the borders of each set begin, and those of the last end.
-const ROWS_FROM: [usize; 3] = [0, 4, 8];
+// Set 1.
+const IEC_61000_4_11: Borders = Borders {
+    rows: &[10, 40, 70, 80],
+    columns: &[
+        Border {
+            fifths: 10,
+            times: 0,
+        },
+        Border {
+            fifths: 0,
+            times: 2,
+        },
+        Border {
+            fifths: 0,
+            times: 5,
+        },
+        Border {
+            fifths: 0,
+            times: 50,
+        },
+    ],
+};
 
-const COLUMNS_FROM: [usize; 3] = [0, 7, 11];
+// The sets, each at its number.
+static SETS: [Borders; 2] = [UNIPEDE, IEC_61000_4_11];
 
 // Whether there is such a set.
 pub fn known_set(set: u64) -> bool
     ensures { result ≡ known_set set }
 {
-    set < 2
+    set < SETS.len() as u64
 }
 
 // Refusal 1 of a set that there is not: it is the eighth, after the seven settings.
-pub fn check_set(set: u64) -> Taken
+pub fn check_set(set: u64) -> Result<(), Refusal>
     ensures { result ≡ set_check set }
 {
     if known_set(set) {
-        return Taken::Accepted;
+        Ok(())
+    } else {
+        Err(Refusal::Setting(8))
     }
-    Taken::Refused(Refusal::Setting(8))
 }
 
-// How many rows, or columns, a set has: one more than borders, which begin where `from` says.
-fn count_from(from: [usize; 3], set: u64) -> u64
-    requires { (known_set set ≡ true) × (get_or from set 0 ≤ get_or from (set + 1) 0) × (get_or from (set + 1) 0 ≤ 40) }
-    ensures { result ≡ suc (get_or from (set + 1) 0 - get_or from set 0) }
+// How many rows, or columns, borders make: the last is the rest.
+fn count<T>(borders: &[T]) -> u64
+    requires { length borders.now ≤ 40 }
+    ensures { result ≡ suc (length borders.now) }
 {
-    let i = set as usize;
-    (from[i + 1] - from[i]) as u64 + 1
+    borders.len() as u64 + 1
+}
+
+// The borders of a set.
+fn borders_of(set: u64) -> Borders
+    requires { known_set set ≡ true }
+    ensures rows { (s : Settings) → result.rows.now ≡ (borders_of s set).rows }
+    ensures columns { (s : Settings) → at_frequency s.f result.columns.now ≡ (borders_of s set).columns }
+    ensures percents { All (λ p. p ≤ 100) result.rows.now }
+    ensures low { All (λ b. (b.fifths ≤ 1000) × (b.times ≤ 1000)) result.columns.now }
+    ensures few { (length result.rows.now ≤ 40) × (length result.columns.now ≤ 40) }
+{
+    SETS[set as usize]
+}
+
+// The row of x, m being N x R x R: on a border it is not above it.
+fn row(rows: &[u64], m: u64, x: u64) -> u64
+    requires percents { All (λ p. p ≤ 100) rows.now }
+    requires low { m ≤ 1280000000000 }
+    ensures { result ≡ prefix_len (λ p. ltb (p * p * m) x) rows.now }
+{
+    rows.iter().take_while(|p| **p * **p * m < x).count() as u64
+}
+
+// The column of x: on a border it has passed it.
+fn column(columns: &[Border], f: u64, x: u64) -> u64
+    requires low { All (λ b. (b.fifths ≤ 1000) × (b.times ≤ 1000)) columns.now }
+    requires frequency { f ≤ 60 }
+    ensures { result ≡ prefix_len (λ b. leb (b.fifths + b.times * f) x) columns.now }
+{
+    columns
+        .iter()
+        .take_while(|b| b.fifths + b.times * f <= x)
+        .count() as u64
 }
 
 // One above the last cell of a set, whatever the settings; 40 where there is no such set.
@@ -57,70 +153,8 @@ pub fn not_scored(set: u64) -> u64
     if !known_set(set) {
         return 40;
     }
-    count_from(ROWS_FROM, set) * count_from(COLUMNS_FROM, set)
-}
-
-// The place of x among borders in percent, with m for N x R x R: on a border it is not above it.
-fn row_among(rows: &[u64], m: u64, x: u64) -> u64
-    requires { (all_below 101 rows.now ≡ true) × (m ≤ 1280000000000) }
-    ensures { result ≡ place_of (λ p. ltb (p * p * m) x) rows.now }
-{
-    let mut i = 0;
-    while i < rows.len() && rows[i] * rows[i] * m < x {
-        i += 1;
-    }
-    i as u64
-}
-
-// The place of x among borders in fifths of a half-cycle: on a border it has passed it.
-fn column_among(fifths: &[u64], times: &[u64], f: u64, x: u64) -> u64
-    requires { (length fifths.now ≡ length times.now) × (all_below 1001 fifths.now ≡ true) × (all_below 1001 times.now ≡ true) × (f ≤ 60) }
-    ensures { result ≡ place_of (λ b. leb b x) (fifths_at f fifths.now times.now) }
-{
-    let mut i = 0;
-    while i < fifths.len() && fifths[i] + times[i] * f <= x {
-        i += 1;
-    }
-    i as u64
-}
-
-// The same among those from a up to and without e.
-fn row_within(rows: &[u64], a: usize, e: usize, m: u64, x: u64) -> u64
-    requires { (a ≤ e) × (e ≤ length rows.now) × (all_below 101 rows.now ≡ true) × (m ≤ 1280000000000) }
-    ensures { result ≡ place_of (λ p. ltb (p * p * m) x) (cut a e rows.now) }
-{
-    row_among(&rows[a..e], m, x)
-}
-
-fn column_within(fifths: &[u64], times: &[u64], a: usize, e: usize, f: u64, x: u64) -> u64
-    requires { (a ≤ e) × (e ≤ length fifths.now) × (length fifths.now ≡ length times.now) × (all_below 1001 fifths.now ≡ true) × (all_below 1001 times.now ≡ true) × (f ≤ 60) }
-    ensures { result ≡ place_of (λ b. leb b x) (fifths_at f (cut a e fifths.now) (cut a e times.now)) }
-{
-    column_among(&fifths[a..e], &times[a..e], f, x)
-}
-
-// The row of an extreme.
-fn row(s: Settings, set: u64, extreme: u64) -> u64
-    requires { (settings_good s ≡ true) × (known_set set ≡ true) × (extreme ≤ s.n * 10000000000) }
-    ensures { result ≡ row_of s (borders_of s set) extreme }
-{
-    let m = full_of(s);
-    let rows = ROWS;
-    let from = ROWS_FROM;
-    let i = set as usize;
-    row_within(&rows, from[i], from[i + 1], m, 10000 * extreme)
-}
-
-// The column of a duration of h half-cycles.
-fn column(s: Settings, set: u64, h: u64) -> u64
-    requires { (settings_good s ≡ true) × (known_set set ≡ true) × (h ≤ 100000) }
-    ensures { result ≡ column_of (borders_of s set) h }
-{
-    let fifths = FIFTHS;
-    let times = TIMES;
-    let from = COLUMNS_FROM;
-    let i = set as usize;
-    column_within(&fifths, &times, from[i], from[i + 1], s.f, 5 * h)
+    let borders = borders_of(set);
+    count(borders.rows) * count(borders.columns)
 }
 
 // The cell of an extreme and a duration of h half-cycles: number of columns x row + column.
@@ -128,7 +162,9 @@ pub fn cell_at(s: Settings, set: u64, extreme: u64, h: u64) -> u64
     requires { (settings_good s ≡ true) × (known_set set ≡ true) × (extreme ≤ s.n * 10000000000) × (h ≤ 100000) }
     ensures { result ≡ cell_at s (borders_of s set) extreme h }
 {
-    let row = row(s, set, extreme);
-    let column = column(s, set, h);
-    count_from(COLUMNS_FROM, set) * row + column
+    let borders = borders_of(set);
+    let m = full_of(s);
+    let row = row(borders.rows, m, 10000 * extreme);
+    let column = column(borders.columns, s.f, 5 * h);
+    count(borders.columns) * row + column
 }

@@ -3,18 +3,48 @@
 #![tactic(auto)]
 
 ghost use Rattle.std.specs.Prelude.{◌≡◌, length};
-ghost use Rattle.rules.specs.Scores.{reason_by, scoring_by, reason_number};
+ghost use Rattle.rules.specs.Scores.{reason_by, scoring_by};
 ghost use Rattle.rules.specs.Site.{cell_of};
 ghost use Rattle.rules.specs.Refusals.{listed, written, traced, trace_written, freshened, added};
-ghost use Rattle.words.specs.Numbers.{settings_from, event_with, severity_after, energy_after, number_of_listed, answer_of_listed, number_of_traced, answer_of_traced, number_of_taken, place_of_taken};
+ghost use Rattle.words.specs.Numbers.{settings_from, event_with, severity_after, energy_after, number_of_score, number_of_answer, count_or_place, place_of_answer};
 ghost use Rattle.words.specs.Words.{table_from, table_words};
 
-use rules::{Listed, Scoring, Traced};
+use rules::{Refusal, Site};
 use words::{
-    event, number_of, number_of_taken, place_in, place_of_taken, settings, table_of, words_of,
+    event, number_of, number_of_reason, number_of_taken, place_in, place_of_taken, settings,
+    table_of, words_of,
 };
 
+// The number of an answer that counts, and in `answer` how many there are, or the refusal's place.
+fn told(given: Result<u64, Refusal>, answer: &mut u64) -> u64
+    ensures value { result ≡ number_of_answer given }
+    ensures answer_after { answer.new ≡ count_or_place given }
+{
+    match given {
+        Ok(count) => {
+            *answer = count;
+            0
+        }
+        Err(refusal) => {
+            *answer = place_in(refusal);
+            number_of(refusal)
+        }
+    }
+}
+
+// The number of an answer with a table, its place in `place` and the table's numbers in `table`.
+fn handed(site: Site, table: &mut [u64; 60], place: &mut u64) -> u64
+    ensures value { result ≡ number_of_answer site.answer }
+    ensures place_after { place.new ≡ place_of_answer site.answer }
+    ensures table_after { table.new ≡ table_words site.table }
+{
+    *table = words_of(site.table);
+    *place = place_of_taken(site.answer);
+    number_of_taken(site.answer)
+}
+
 // Why the event has no score under the set of borders: 0 where it has one.
+#[tactic(auto, unfolding(rules::specs::Scores::reason_by))]
 pub fn burr_reason(
     n: u64,
     r: u64,
@@ -42,7 +72,10 @@ pub fn burr_reason(
     let e = event(
         kind, start, end, seen, extreme, retained, shortfall, class, a, b, c,
     );
-    score::reason(s, set, e)
+    match score::reason(s, set, e) {
+        None => 0,
+        Some(why) => number_of_reason(why),
+    }
 }
 
 // The event's cell by the set of borders: one above the last where it has no score, and 40 where there is no such set.
@@ -100,7 +133,7 @@ pub fn burr_score(
     severity: &mut f64,
     energy: &mut f64,
 ) -> u64
-    ensures value { result ≡ reason_number (scoring_by (settings_from n r f sag interruption swell hysteresis) set (event_with kind start end seen extreme retained shortfall class a b c)) }
+    ensures value { result ≡ number_of_score (scoring_by (settings_from n r f sag interruption swell hysteresis) set (event_with kind start end seen extreme retained shortfall class a b c)) }
     ensures severity_after { severity.new ≡ severity_after (scoring_by (settings_from n r f sag interruption swell hysteresis) set (event_with kind start end seen extreme retained shortfall class a b c)) severity.old }
     ensures energy_after { energy.new ≡ energy_after (scoring_by (settings_from n r f sag interruption swell hysteresis) set (event_with kind start end seen extreme retained shortfall class a b c)) energy.old }
 {
@@ -108,14 +141,13 @@ pub fn burr_score(
     let e = event(
         kind, start, end, seen, extreme, retained, shortfall, class, a, b, c,
     );
-    let given = score::score_of(s, set, e);
-    match given {
-        Scoring::Scored(x) => {
+    match score::score_of(s, set, e) {
+        Ok(x) => {
             *severity = x.severity;
             *energy = x.energy;
             0
         }
-        Scoring::Unscored(why) => why,
+        Err(why) => number_of_reason(why),
     }
 }
 
@@ -133,22 +165,12 @@ pub fn burr_list(
     events: &mut [u64],
     answer: &mut u64,
 ) -> u64
-    ensures value { result ≡ number_of_listed (listed (settings_from n r f sag interruption swell hysteresis) samples.now (length events.old)) }
-    ensures answer_after { answer.new ≡ answer_of_listed (listed (settings_from n r f sag interruption swell hysteresis) samples.now (length events.old)) }
+    ensures value { result ≡ number_of_answer (listed (settings_from n r f sag interruption swell hysteresis) samples.now (length events.old)) }
+    ensures answer_after { answer.new ≡ count_or_place (listed (settings_from n r f sag interruption swell hysteresis) samples.now (length events.old)) }
     ensures events_after { events.new ≡ written (settings_from n r f sag interruption swell hysteresis) samples.now events.old }
 {
     let s = settings(n, r, f, sag, interruption, swell, hysteresis);
-    let listed = list::list(s, samples, events);
-    match listed {
-        Listed::Events(count) => {
-            *answer = count;
-            0
-        }
-        Listed::Turned(refusal) => {
-            *answer = place_in(refusal);
-            number_of(refusal)
-        }
-    }
+    told(list::list(s, samples, events), answer)
 }
 
 // Each half-cycle of a recording, five numbers each, from the front of `halves`: 0 and how many there are; or the refusal's number and
@@ -165,22 +187,12 @@ pub fn burr_halves(
     halves: &mut [u64],
     answer: &mut u64,
 ) -> u64
-    ensures value { result ≡ number_of_traced (traced (settings_from n r f sag interruption swell hysteresis) samples.now (length halves.old)) }
-    ensures answer_after { answer.new ≡ answer_of_traced (traced (settings_from n r f sag interruption swell hysteresis) samples.now (length halves.old)) }
+    ensures value { result ≡ number_of_answer (traced (settings_from n r f sag interruption swell hysteresis) samples.now (length halves.old)) }
+    ensures answer_after { answer.new ≡ count_or_place (traced (settings_from n r f sag interruption swell hysteresis) samples.now (length halves.old)) }
     ensures halves_after { halves.new ≡ trace_written (settings_from n r f sag interruption swell hysteresis) samples.now halves.old }
 {
     let s = settings(n, r, f, sag, interruption, swell, hysteresis);
-    let traced = trace::trace(s, samples, halves);
-    match traced {
-        Traced::Halves(many) => {
-            *answer = many;
-            0
-        }
-        Traced::Untraced(why) => {
-            *answer = place_in(why);
-            number_of(why)
-        }
-    }
+    told(trace::trace(s, samples, halves), answer)
 }
 
 // A fresh table for the settings and the set of borders, and 0; or the refusal's number and its place, and a table of zeros.
@@ -196,30 +208,19 @@ pub fn burr_fresh(
     table: &mut [u64; 60],
     place: &mut u64,
 ) -> u64
-    ensures value { result ≡ number_of_taken (freshened (settings_from n r f sag interruption swell hysteresis) set).answer }
-    ensures place_after { place.new ≡ place_of_taken (freshened (settings_from n r f sag interruption swell hysteresis) set).answer }
+    ensures value { result ≡ number_of_answer (freshened (settings_from n r f sag interruption swell hysteresis) set).answer }
+    ensures place_after { place.new ≡ place_of_answer (freshened (settings_from n r f sag interruption swell hysteresis) set).answer }
     ensures table_after { table.new ≡ table_words (freshened (settings_from n r f sag interruption swell hysteresis) set).table }
 {
     let s = settings(n, r, f, sag, interruption, swell, hysteresis);
-    let site = site::fresh(s, set);
-    let made = site.table;
-    let answer = site.answer;
-    *table = words_of(made);
-    *place = place_of_taken(answer);
-    number_of_taken(answer)
+    handed(site::fresh(s, set), table, place)
 }
 
 // The table grown by a recording, and 0; or the refusal's number and its place, and the table as it was.
 pub fn burr_add(table: &mut [u64; 60], samples: &[i32], place: &mut u64) -> u64
-    ensures value { result ≡ number_of_taken (added (table_from table.old) samples.now).answer }
-    ensures place_after { place.new ≡ place_of_taken (added (table_from table.old) samples.now).answer }
+    ensures value { result ≡ number_of_answer (added (table_from table.old) samples.now).answer }
+    ensures place_after { place.new ≡ place_of_answer (added (table_from table.old) samples.now).answer }
     ensures table_after { table.new ≡ table_words (added (table_from table.old) samples.now).table }
 {
-    let words = *table;
-    let site = site::add(table_of(words), samples);
-    let grown = site.table;
-    let taken = site.answer;
-    *table = words_of(grown);
-    *place = place_of_taken(taken);
-    number_of_taken(taken)
+    handed(site::add(table_of(*table), samples), table, place)
 }

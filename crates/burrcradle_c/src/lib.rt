@@ -2,10 +2,10 @@
 #![tactic(auto)]
 
 ghost use Rattle.std.specs.Prelude.{◌≡◌, length};
-ghost use Rattle.rules.specs.Scores.{reason_by, scoring_by, reason_number};
+ghost use Rattle.rules.specs.Scores.{reason_by, scoring_by};
 ghost use Rattle.rules.specs.Site.{cell_of};
 ghost use Rattle.rules.specs.Refusals.{listed, written, traced, trace_written, freshened, added};
-ghost use Rattle.words.specs.Numbers.{settings_from, event_with, severity_after, energy_after, number_of_listed, answer_of_listed, number_of_traced, answer_of_traced, number_of_taken, place_of_taken};
+ghost use Rattle.words.specs.Numbers.{settings_from, event_with, severity_after, energy_after, number_of_score, number_of_answer, count_or_place, place_of_answer};
 ghost use Rattle.words.specs.Words.{table_from, table_words};
 
 // Why the event has no score under the set of borders: 0 where it has one.
@@ -129,7 +129,7 @@ pub extern "C" fn burr_score(
     severity: &mut f64,
     energy: &mut f64,
 ) -> u64
-    ensures value { result ≡ reason_number (scoring_by (settings_from n r f sag interruption swell hysteresis) set (event_with kind start end seen extreme retained shortfall class a b c)) }
+    ensures value { result ≡ number_of_score (scoring_by (settings_from n r f sag interruption swell hysteresis) set (event_with kind start end seen extreme retained shortfall class a b c)) }
     ensures severity_after { severity.new ≡ severity_after (scoring_by (settings_from n r f sag interruption swell hysteresis) set (event_with kind start end seen extreme retained shortfall class a b c)) severity.old }
     ensures energy_after { energy.new ≡ energy_after (scoring_by (settings_from n r f sag interruption swell hysteresis) set (event_with kind start end seen extreme retained shortfall class a b c)) energy.old }
 {
@@ -173,8 +173,8 @@ pub extern "C" fn burr_list(
     events: &mut [u64],
     answer: &mut u64,
 ) -> u64
-    ensures value { result ≡ number_of_listed (listed (settings_from n r f sag interruption swell hysteresis) samples.now (length events.old)) }
-    ensures answer_after { answer.new ≡ answer_of_listed (listed (settings_from n r f sag interruption swell hysteresis) samples.now (length events.old)) }
+    ensures value { result ≡ number_of_answer (listed (settings_from n r f sag interruption swell hysteresis) samples.now (length events.old)) }
+    ensures answer_after { answer.new ≡ count_or_place (listed (settings_from n r f sag interruption swell hysteresis) samples.now (length events.old)) }
     ensures events_after { events.new ≡ written (settings_from n r f sag interruption swell hysteresis) samples.now events.old }
 {
     burrcradle::burr_list(
@@ -206,8 +206,8 @@ pub extern "C" fn burr_halves(
     halves: &mut [u64],
     answer: &mut u64,
 ) -> u64
-    ensures value { result ≡ number_of_traced (traced (settings_from n r f sag interruption swell hysteresis) samples.now (length halves.old)) }
-    ensures answer_after { answer.new ≡ answer_of_traced (traced (settings_from n r f sag interruption swell hysteresis) samples.now (length halves.old)) }
+    ensures value { result ≡ number_of_answer (traced (settings_from n r f sag interruption swell hysteresis) samples.now (length halves.old)) }
+    ensures answer_after { answer.new ≡ count_or_place (traced (settings_from n r f sag interruption swell hysteresis) samples.now (length halves.old)) }
     ensures halves_after { halves.new ≡ trace_written (settings_from n r f sag interruption swell hysteresis) samples.now halves.old }
 {
     burrcradle::burr_halves(
@@ -238,8 +238,8 @@ pub extern "C" fn burr_fresh(
     table: &mut [u64; 60],
     place: &mut u64,
 ) -> u64
-    ensures value { result ≡ number_of_taken (freshened (settings_from n r f sag interruption swell hysteresis) set).answer }
-    ensures place_after { place.new ≡ place_of_taken (freshened (settings_from n r f sag interruption swell hysteresis) set).answer }
+    ensures value { result ≡ number_of_answer (freshened (settings_from n r f sag interruption swell hysteresis) set).answer }
+    ensures place_after { place.new ≡ place_of_answer (freshened (settings_from n r f sag interruption swell hysteresis) set).answer }
     ensures table_after { table.new ≡ table_words (freshened (settings_from n r f sag interruption swell hysteresis) set).table }
 {
     burrcradle::burr_fresh(
@@ -259,8 +259,8 @@ pub extern "C" fn burr_fresh(
 // The table grown by a recording, and 0; or the refusal's number and its place, and the table as it was.
 #[unsafe(no_mangle)]
 pub extern "C" fn burr_add(table: &mut [u64; 60], samples: &[i32], place: &mut u64) -> u64
-    ensures value { result ≡ number_of_taken (added (table_from table.old) samples.now).answer }
-    ensures place_after { place.new ≡ place_of_taken (added (table_from table.old) samples.now).answer }
+    ensures value { result ≡ number_of_answer (added (table_from table.old) samples.now).answer }
+    ensures place_after { place.new ≡ place_of_answer (added (table_from table.old) samples.now).answer }
     ensures table_after { table.new ≡ table_words (added (table_from table.old) samples.now).table }
 {
     burrcradle::burr_add(table, samples, place)

@@ -24,10 +24,11 @@ pub fn settings() -> Settings
 
 // A refusal's number and its place.
 pub fn write_refusal(rt: &impl Print, refusal: Refusal) -> io::Result<()> {
-    print::text(rt, b" refusal")?;
-    print::number(rt, words::number_of(refusal))?;
-    print::text(rt, b" at")?;
-    print::number(rt, words::place_in(refusal))
+    print!(rt;
+        " refusal {} at {}",
+        words::number_of(refusal),
+        words::place_in(refusal)
+    )
 }
 
 // Eight blocks of four equal samples: values for channel a, and for b and c.
@@ -35,13 +36,11 @@ pub fn blocks(a: [i32; 8], bc: [i32; 8]) -> [i32; 96]
     ensures { 96 ≡ length result }
 {
     let mut run = [0; 96];
-    let mut m: usize = 0;
-    while m < 32 {
+    for m in 0..32 {
         let x = bc[m / 4];
         run[3 * m] = a[m / 4];
         run[3 * m + 1] = x;
         run[3 * m + 2] = x;
-        m += 1;
     }
     run
 }
@@ -52,6 +51,6 @@ pub fn k9() -> [i32; 96]
 {
     let values = [1000, 1000, 500, 500, 500, 500, 1000, 1000];
     let mut run = blocks(values, values);
-    run[48] = -2147483648;
+    run[48] = i32::MIN;
     run
 }

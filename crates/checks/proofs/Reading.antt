@@ -1,5 +1,6 @@
 -- A recording as a pass reads it, whatever its samples are: it has the same length, what lies outside the limits is missing, and so it is accepted
 -- wherever the length is; where every sample is in range it is the recording itself. Assumes nothing.
+use Rattle.std.specs.Prelude.{Ok, Err}
 use Prim.Native.Nat.{ℕ, zero, suc, ◌/◌, ◌%◌, ◌≤◌}
 use mathlib.Core.Path.{◌≡◌, refl, sym, ap, ◌∙◌}
 use mathlib.Core.Bool.{Bool, true, false, not, cond}
@@ -16,7 +17,6 @@ use Rattle.rules.specs.Refusals.{recording_check, most_half_cycles, and_then}
 use Rattle.rules.specs.Demands.{AcceptedRecording}
 use Rattle.rules.specs.declared.Settings.{Settings}
 use Rattle.rules.specs.declared.Refusal.TheVariants.{Uneven, Short, Ragged, Long, Sample}
-use Rattle.rules.specs.declared.Taken.TheVariants.{Accepted, Refused}
 use Rattle.rules.proofs.Booleans.{cases}
 use Rattle.rules.proofs.Bounded.{all-at, all_true}
 use Rattle.rules.proofs.Samples.{accepted_recording, both_accept}
@@ -31,8 +31,8 @@ check_parts s xs =
     parts (not (eqb (length xs % 3) 0)) (ltb (samples_of xs) s.n) (not (eqb (samples_of xs % (s.n / 2)) 0)) (ltb most_half_cycles (halves_of s xs))
   where
     parts : (a b c d : Bool)
-        → cond a (Refused Uneven) (cond b (Refused Short) (cond c (Refused Ragged) (cond d (Refused Long) (range_check xs))))
-        ≡ and_then (cond a (Refused Uneven) (cond b (Refused Short) (cond c (Refused Ragged) (cond d (Refused Long) Accepted)))) (range_check xs)
+        → cond a (Err Uneven) (cond b (Err Short) (cond c (Err Ragged) (cond d (Err Long) (range_check xs))))
+        ≡ and_then (cond a (Err Uneven) (cond b (Err Short) (cond c (Err Ragged) (cond d (Err Long) (Ok tt))))) (range_check xs)
     parts true b c d = refl
     parts false true c d = refl
     parts false false true d = refl
@@ -40,14 +40,14 @@ check_parts s xs =
     parts false false false false = refl
 
 -- where the length is accepted, the samples decide
-pub by_range : (s : Settings) (xs : List ℤ) → shape_check s xs ≡ Accepted → recording_check s xs ≡ range_check xs
+pub by_range : (s : Settings) (xs : List ℤ) → shape_check s xs ≡ Ok tt → recording_check s xs ≡ range_check xs
 by_range s xs e = check_parts s xs ∙ rw e
 
-pub range_good : (xs : List ℤ) → all_in_range xs ≡ true → range_check xs ≡ Accepted
+pub range_good : (xs : List ℤ) → all_in_range xs ≡ true → range_check xs ≡ Ok tt
 unfolding range_check
 range_good xs e = rw (bad_is xs, e)
 
-pub range_bad : (xs : List ℤ) → all_in_range xs ≡ false → range_check xs ≡ Refused (Sample (first_bad xs))
+pub range_bad : (xs : List ℤ) → all_in_range xs ≡ false → range_check xs ≡ Err (Sample (first_bad xs))
 unfolding range_check
 range_bad xs e = rw (bad_is xs, e)
 
@@ -121,8 +121,8 @@ read_itself xs e = go xs (all_ranged xs e)
     go (x ∷ xs) h = rw (read_same x (h 0 (omega arith)), go xs (λ i l. h (suc i) (omega arith)))
 
 -- THE LAW: where the length is accepted, the recording as read is accepted
-module _ (s : Settings) (xs : List ℤ) (shaped : shape_check s xs ≡ Accepted) where
-  same_shape : shape_check s (as_read xs) ≡ Accepted
+module _ (s : Settings) (xs : List ℤ) (shaped : shape_check s xs ≡ Ok tt) where
+  same_shape : shape_check s (as_read xs) ≡ Ok tt
   unfolding shape_check
   same_shape = rw (read_halves s xs, read_length xs) shaped
 
@@ -130,15 +130,15 @@ module _ (s : Settings) (xs : List ℤ) (shaped : shape_check s xs ≡ Accepted)
   unfolding all_in_range
   all_read = all_true (λ i. in_range (get_or (as_read xs) i (pos 0))) (length (as_read xs)) (λ i l. rw (read_at xs i) (read_ranged (get_or xs i (pos 0))))
 
-  pub read_taken : recording_check s (as_read xs) ≡ Accepted
+  pub read_taken : recording_check s (as_read xs) ≡ Ok tt
   read_taken = by_range s (as_read xs) same_shape ∙ range_good (as_read xs) all_read
 
   pub read_accepted : AcceptedRecording s (as_read xs)
   read_accepted = accepted_recording s (as_read xs) read_taken
 
 -- of an accepted recording
-module _ (s : Settings) (xs : List ℤ) (taken : recording_check s xs ≡ Accepted) where
-  pub accepted_shape : shape_check s xs ≡ Accepted
+module _ (s : Settings) (xs : List ℤ) (taken : recording_check s xs ≡ Ok tt) where
+  pub accepted_shape : shape_check s xs ≡ Ok tt
   accepted_shape = (both_accept (shape_check s xs) (range_check xs) (sym (check_parts s xs) ∙ taken)).0
 
   pub accepted_itself : as_read xs ≡ xs

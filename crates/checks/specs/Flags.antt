@@ -1,25 +1,24 @@
 -- The checks of a recording in their two parts, the flags of its samples, and a recording as a pass reads it.
-use Rattle.std.specs.Prelude.{ℕ, ◌/◌, ◌%◌, ◌<◌, ◌≡◌, Bool, true, false, not, cond, List, [], ◌∷◌, leb, ltb, eqb, ℤ, pos, negsuc, nat_abs, length, get_or}
+use Rattle.std.specs.Prelude.{ℕ, ◌/◌, ◌%◌, ◌<◌, ◌≡◌, Bool, true, false, not, cond, List, [], ◌∷◌, leb, ltb, eqb, ℤ, pos, negsuc, nat_abs, length, get_or, Result, Ok, Err, ⊤}
 use Rattle.rules.specs.Bounded.{all}
 use Rattle.rules.specs.Recorder.{in_range, first_bad}
 use Rattle.rules.specs.Halves.{samples_of, halves_of}
 use Rattle.rules.specs.Refusals.{most_half_cycles}
 use Rattle.rules.specs.declared.Settings.{Settings}
 use Rattle.rules.specs.declared.Refusal.TheVariants.{Uneven, Short, Ragged, Long, Sample}
-use Rattle.rules.specs.declared.Taken.{Taken}
-use Rattle.rules.specs.declared.Taken.TheVariants.{Accepted, Refused}
+use Rattle.rules.specs.declared.Refusal.{Refusal}
 
 -- ---- refusals 2 to 5, which the length alone decides, and refusal 6
 
-unfoldable pub shape_check : Settings → List ℤ → Taken
+unfoldable pub shape_check : Settings → List ℤ → Result ⊤ Refusal
 shape_check s xs =
-    cond (not (eqb (length xs % 3) 0)) (Refused Uneven)
-    (cond (ltb (samples_of xs) s.n) (Refused Short)
-    (cond (not (eqb (samples_of xs % (s.n / 2)) 0)) (Refused Ragged)
-    (cond (ltb most_half_cycles (halves_of s xs)) (Refused Long) Accepted)))
+    cond (not (eqb (length xs % 3) 0)) (Err Uneven)
+    (cond (ltb (samples_of xs) s.n) (Err Short)
+    (cond (not (eqb (samples_of xs % (s.n / 2)) 0)) (Err Ragged)
+    (cond (ltb most_half_cycles (halves_of s xs)) (Err Long) (Ok tt))))
 
-unfoldable pub range_check : List ℤ → Taken
-range_check xs = cond (ltb (first_bad xs) (length xs)) (Refused (Sample (first_bad xs))) Accepted
+unfoldable pub range_check : List ℤ → Result ⊤ Refusal
+range_check xs = cond (ltb (first_bad xs) (length xs)) (Err (Sample (first_bad xs))) (Ok tt)
 
 -- ---- flags
 

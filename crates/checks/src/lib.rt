@@ -2,18 +2,18 @@
 // are.
 #![tactic(auto)]
 
-ghost use Rattle.std.specs.Prelude.{◌≡◌, true, ◌≤◌, length};
+ghost use Rattle.std.specs.Prelude.{◌≡◌, true, cond, ◌≤◌, length};
 ghost use Rattle.rules.specs.Recorder.{bad_setting, settings_good, missing, in_range, first_bad};
 ghost use Rattle.rules.specs.Halves.{full, halves_of};
 ghost use Rattle.rules.specs.Refusals.{settings_check, and_then};
 ghost use Rattle.checks.specs.Flags.{too_low, too_high, all_in_range, RangedBelow, shape_check};
 
 use numbers::{quotient, remainder};
-use rules::{Refusal, Settings, Taken};
+use rules::{Refusal, Settings};
 
-// The number of the first setting that is outside its range; 0 where none is.
-pub fn first_bad_setting(s: Settings) -> u64
-    ensures { result ≡ bad_setting s }
+// The number of the first setting that is outside its range, if there is one.
+pub fn first_bad_setting(s: Settings) -> Option<u64>
+    ensures { result ≡ cond (settings_good s) None (Some (bad_setting s)) }
 {
     let even = s.n % 2 == 0;
     let n = (8 <= s.n) & (s.n <= 512) & even;
@@ -24,27 +24,34 @@ pub fn first_bad_setting(s: Settings) -> u64
     let swell = (105 <= s.swell) & (s.swell <= 150);
     let hysteresis = s.hysteresis <= 5;
     if !n {
-        return 1;
+        return Some(1);
     }
     if !r {
-        return 2;
+        return Some(2);
     }
     if !f {
-        return 3;
+        return Some(3);
     }
     if !sag {
-        return 4;
+        return Some(4);
     }
     if !interruption {
-        return 5;
+        return Some(5);
     }
     if !swell {
-        return 6;
+        return Some(6);
     }
     if !hysteresis {
-        return 7;
+        return Some(7);
     }
-    0
+    None
+}
+
+// Whether every setting is in its range.
+pub fn settings_good(s: Settings) -> bool
+    ensures { result ≡ settings_good s }
+{
+    first_bad_setting(s).is_none()
 }
 
 // N x R x R.
@@ -56,14 +63,13 @@ pub fn full_of(s: Settings) -> u64
 }
 
 // Refusal 1.
-pub fn check_settings(s: Settings) -> Taken
+pub fn check_settings(s: Settings) -> Result<(), Refusal>
     ensures { result ≡ settings_check s }
 {
-    let bad = first_bad_setting(s);
-    if bad == 0 {
-        return Taken::Accepted;
+    match first_bad_setting(s) {
+        None => Ok(()),
+        Some(i) => Err(Refusal::Setting(i)),
     }
-    Taken::Refused(Refusal::Setting(bad))
 }
 
 // H, how many half-cycles a recording has.
@@ -117,10 +123,8 @@ pub fn all_in_range(samples: &[i32]) -> bool
     ensures { result ≡ all_in_range samples.now }
 {
     let mut good = true;
-    let mut i: usize = 0;
-    while i < samples.len() {
-        good = good & is_in_range(samples[i]);
-        i += 1;
+    for x in samples {
+        good &= is_in_range(*x);
     }
     good
 }
@@ -130,44 +134,39 @@ pub fn first_bad(samples: &[i32], from: usize) -> usize
     requires { (from ≤ length samples.now) × RangedBelow samples.now from }
     ensures { result ≡ first_bad samples.now }
 {
-    let mut i: usize = from;
-    while i < samples.len() {
+    for i in from..samples.len() {
         if !is_in_range(samples[i]) {
             return i;
         }
-        i += 1;
     }
-    i
+    samples.len()
 }
 
 // Refusals 2 to 5, in their order: all that the length says. Refusal 6 comes out of the pass that reads the samples.
-pub fn check_shape(s: Settings, samples: &[i32]) -> Taken
+pub fn check_shape(s: Settings, samples: &[i32]) -> Result<(), Refusal>
     ensures { result ≡ shape_check s samples.now }
 {
     let n = s.n;
     let per_channel = (samples.len() / 3) as u64;
     if samples.len() % 3 != 0 {
-        return Taken::Refused(Refusal::Uneven);
+        return Err(Refusal::Uneven);
     }
     if per_channel < n {
-        return Taken::Refused(Refusal::Short);
+        return Err(Refusal::Short);
     }
     if remainder(per_channel, n / 2) != 0 {
-        return Taken::Refused(Refusal::Ragged);
+        return Err(Refusal::Ragged);
     }
     if count_halves(s, samples) > 100000 {
-        return Taken::Refused(Refusal::Long);
+        return Err(Refusal::Long);
     }
-    Taken::Accepted
+    Ok(())
 }
 
 // Refusals 1 to 5, in their order.
-pub fn check(s: Settings, samples: &[i32]) -> Taken
+pub fn check(s: Settings, samples: &[i32]) -> Result<(), Refusal>
     ensures { result ≡ and_then (settings_check s) (shape_check s samples.now) }
 {
-    let settings = check_settings(s);
-    match settings {
-        Taken::Accepted => check_shape(s, samples),
-        Taken::Refused(r) => Taken::Refused(r),
-    }
+    check_settings(s)?;
+    check_shape(s, samples)
 }

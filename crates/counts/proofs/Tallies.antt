@@ -1,7 +1,7 @@
 -- The counting pass counts the list: the tally before half-cycle k has the events that start before it. Assumes nothing.
 use Prim.Native.Nat.{ℕ, zero, suc, ◌+◌, ◌*◌, ◌≤◌, ◌<◌}
-use mathlib.Core.Path.{◌≡◌, sym, ap, ◌∙◌}
-use mathlib.Core.Bool.{false, ◌||◌}
+use mathlib.Core.Path.{◌≡◌, refl, sym, ap, ◌∙◌}
+use mathlib.Core.Bool.{false, not, ◌&&◌, ◌||◌}
 use mathlib.Core.List.{List}
 use mathlib.Core.Logic.{⊎_elim}
 use native.Mathlib.Nat.{eq-or-lt_of_le}
@@ -9,32 +9,43 @@ use native.Mathlib.Numerals.{add-one}
 use native.Mathlib.Omega.{arith}
 use lib.ListN.{length}
 use lib.IntN.{ℤ}
-use Rattle.rules.specs.Halves.{half_at, halves_of}
+use Rattle.rules.specs.Halves.{Half, half_at, halves_of}
 use Rattle.rules.specs.Events.{in_event, starts}
 use Rattle.rules.specs.EventList.{events_of}
-use Rattle.rules.specs.Bounded.{before}
+use Rattle.rules.specs.Bounded.{before, bit}
 use Rattle.rules.proofs.Booleans.{neither}
 use Rattle.rules.proofs.Bounded.{count_le}
 use Rattle.rules.proofs.Order.{events-length}
 use Rattle.rules.specs.declared.Settings.{Settings}
-use Rattle.rules.specs.declared.Half.{Half}
 use Rattle.rules.specs.declared.Kind.{Kind}
 use Rattle.rules.specs.declared.Kind.TheVariants.{Sag, Interruption, Swell}
 use Rattle.counts.specs.declared.Tally.{Tally}
-use Rattle.kinds.specs.Machine.{thresholds_of, level_of}
+use Rattle.kinds.specs.Machine.{thresholds_of, outside, inside_at}
+use Rattle.kinds.specs.declared.Inside.{Inside}
+use Rattle.kinds.specs.declared.Thresholds.{Thresholds}
 use Rattle.counts.specs.Counting.{tallied, tally_of, going_on}
 use Rattle.quiet.specs.Quiet.{Resting}
-use Rattle.kinds.proofs.Machine.{goes_here}
+use Rattle.kinds.proofs.Followed.{inside_next}
 
 module _ (s : Settings) (h : ℕ → Half) where
-  pub tally-next : (k : ℕ) → tallied (thresholds_of s) (tally_of s h k) (h k) ≡ tally_of s h (k + 1)
-  unfolding tallied tally_of level_of starts
-  tally-next k = rw (add-one, goes_here s h Sag k, goes_here s h Interruption k, goes_here s h Swell k) (same (omega arith))
+  -- the tally after half-cycle k, where the kinds are those of the rules
+  counted : (k : ℕ) (is : Inside) → is ≡ inside_at s h (k + 1)
+      → ◌≡◌ {A = Tally} (record {
+        inside = is;
+        n =
+            (tally_of s h k).n
+            + (bit (is.sag && not (inside_at s h k).sag) + bit (is.interruption && not (inside_at s h k).interruption) + bit (is.swell && not (inside_at s h k).swell));
+      })
+      (tally_of s h (k + 1))
+  unfolding tally_of inside_at starts
+  counted k is e = rw (e, add-one) (same (omega arith))
     where
-      same : {x y : ℕ} → x ≡ y
-          → ◌≡◌ {A = Tally} (record { sag = in_event s h Sag k; interruption = in_event s h Interruption k; swell = in_event s h Swell k; n = x })
-          (record { sag = in_event s h Sag k; interruption = in_event s h Interruption k; swell = in_event s h Swell k; n = y })
+      same : {x y : ℕ} → x ≡ y → ◌≡◌ {A = Tally} (record { inside = inside_at s h (suc k); n = x }) (record { inside = inside_at s h (suc k); n = y })
       same e = rw e
+
+  pub tally-next : (m : Thresholds) (t : Tally) (v : Half) (k : ℕ) → m ≡ thresholds_of s → t ≡ tally_of s h k → v ≡ h k → tallied m t v ≡ tally_of s h (k + 1)
+  unfolding tallied tally_of
+  tally-next m t v k a b c = rw (a, b, c) (counted k _ (inside_next s h _ _ _ (h k) k refl refl refl refl))
 
   pub tally-few : (k : ℕ) → (tally_of s h k).n ≤ 3 * k
   unfolding tally_of
@@ -42,12 +53,11 @@ module _ (s : Settings) (h : ℕ → Half) where
 
   -- where nothing goes on it stays
   tally_rests : (k : ℕ) → Resting s h k → tally_of s h (suc k) ≡ tally_of s h k
-  unfolding tally_of starts
+  unfolding tally_of inside_at starts
   tally_rests k r =
       rw (r.out Sag, r.out Interruption, r.out Swell, r.out-before Sag, r.out-before Interruption, r.out-before Swell) (same (omega arith))
     where
-      same : {x y : ℕ} → x ≡ y
-          → ◌≡◌ {A = Tally} (record { sag = false; interruption = false; swell = false; n = x }) (record { sag = false; interruption = false; swell = false; n = y })
+      same : {x y : ℕ} → x ≡ y → ◌≡◌ {A = Tally} (record { inside = outside; n = x }) (record { inside = outside; n = y })
       same e = rw e
 
   pub tally_stays : (a b : ℕ) → a ≤ b → ((k : ℕ) → a ≤ k → k < b → Resting s h k) → tally_of s h b ≡ tally_of s h a
@@ -59,7 +69,7 @@ module _ (s : Settings) (h : ℕ → Half) where
 
   -- nothing goes on where the tally says so
   pub none_open : (t : Tally) (k : ℕ) → t ≡ tally_of s h k → going_on t ≡ false → (kind : Kind) → before (in_event s h kind) k ≡ false
-  unfolding tally_of
+  unfolding tally_of inside_at
   none_open t k e f =
       let g : before (in_event s h Sag) k || before (in_event s h Interruption) k || before (in_event s h Swell) k ≡ false = sym (ap going_on e) ∙ f in
       let i = neither (before (in_event s h Sag) k || before (in_event s h Interruption) k) (before (in_event s h Swell) k) g in

@@ -3,3 +3,4 @@ pub mod Squares
 pub mod Parts
 pub mod Sweep
 pub mod Steps
+pub mod Looked

@@ -1,6 +1,6 @@
 -- Half-cycle k is steps k and k + 1: its sums are theirs added, and it lacks a sample if one of them does. The rules say it of the
 -- recording, the code of its runs; the recording is read as a pass reads it, so that nothing is asked of its samples. Assumes nothing.
-use Rattle.std.proofs.Common.{◌≡◌, ℕ, zero, suc, ◌+◌, ◌-◌, ◌*◌, ◌/◌, ◌%◌, ◌<◌, ◌≤◌, Bool, true, false, cond, not, ◌||◌, List, length, get_or, ℤ, pos, sym, refl, ap, ◌∙◌, ⊎_elim, mul-le-mul_right, div-add-mod', add-one, arith, lt-ltb}
+use Rattle.std.proofs.Common.{◌≡◌, ℕ, zero, suc, ◌+◌, ◌-◌, ◌*◌, ◌/◌, ◌%◌, ◌<◌, ◌≤◌, Bool, true, false, cond, not, ◌||◌, List, length, get_or, ℤ, pos, sym, refl, ap, ◌∙◌, ⊎_elim, mul-le-mul_right, div-add-mod', add-one, arith, lt-ltb, Ok, Some, None, mul-le-mul}
 use mathlib.Core.Bool.{false≢true}
 use native.Mathlib.Nat.{mul-div-mul_left}
 use native.Mathlib.Numerals.{add-two}
@@ -9,8 +9,6 @@ use Rattle.rules.specs.Recorder.{sample_at, missing, in_range}
 use Rattle.rules.specs.Halves.{samples_of, square, begin, any_missing, squares, sums_at, halves_of, half_at, known}
 use Rattle.rules.specs.declared.Settings.{Settings}
 use Rattle.rules.specs.declared.Sums.{Sums}
-use Rattle.rules.specs.declared.Half.TheVariants.{Unknown, Known}
-use Rattle.rules.specs.declared.Taken.TheVariants.{Accepted}
 use Rattle.rules.specs.Demands.{Good, AcceptedRecording}
 use Rattle.rules.proofs.Booleans.{cases, not_both}
 use Rattle.rules.proofs.Bounded.{any_same, sum_same, all_true}
@@ -107,7 +105,7 @@ within-run w m =
     all_true (λ i. in_range (get_or w i (pos 0))) (length w)
     (λ i l. within_ranged (get_or w i (pos 0)) (any_at (λ i. outside (get_or w i (pos 0))) (length w) m i l))
 
-module _ (s : Settings) (xs : List ℤ) (good : Good s) (shaped : shape_check s xs ≡ Accepted) where
+module _ (s : Settings) (xs : List ℤ) (good : Good s) (shaped : shape_check s xs ≡ Ok tt) where
   abbrev ys : List ℤ
   ys = as_read xs
 
@@ -119,6 +117,12 @@ module _ (s : Settings) (xs : List ℤ) (good : Good s) (shaped : shape_check s 
   step_fits zero l = omega (arith, ok.enough, read_length xs)
   step_fits (suc k) l =
       omega (arith, window-fits s ys good ok k (omega (arith, read_halves s xs)), read_length xs, good.n_even)
+
+  pub few_halves : halves_of s xs ≤ 100000
+  few_halves = omega (arith, ok.few, read_halves s xs)
+
+  pub begin-low : (j : ℕ) → j ≤ halves_of s xs → begin s j ≤ 25600000
+  begin-low j l = mul-le-mul {n₁ = j} {m₁ = s.n / 2} {n₂ = 100000} {m₂ = 256} (omega (arith, few_halves)) (omega (arith, good.n_high))
 
   -- and they are all of it
   pub steps_all : length xs ≤ 3 * begin s (suc (halves_of s xs))
@@ -163,7 +167,7 @@ module _ (s : Settings) (xs : List ℤ) (good : Good s) (shaped : shape_check s 
     unfolding sums_in
     sums_are e = rw (squares_are e 0 (omega arith), squares_are e 1 (omega arith), squares_are e 2 (omega arith))
 
-    pub step_is : step_at s xs j ≡ cond (step_missing s ys j) Unknown (Known (step_sums s ys j))
+    pub step_is : step_at s xs j ≡ cond (step_missing s ys j) None (Some (step_sums s ys j))
     unfolding step_at step_in
     step_is =
         ⊎_elim (λ e. let f : step_missing s ys j ≡ true = sym outside_is ∙ e in rw (e, f))
@@ -227,8 +231,8 @@ module _ (s : Settings) (xs : List ℤ) (good : Good s) (shaped : shape_check s 
       (both (step_missing s ys k) (step_missing s ys (suc k)) (step_sums s ys k) (step_sums s ys (suc k)))
     where
       both : (a b : Bool) (u v : Sums)
-          → joined_of (cond a Unknown (Known u)) (cond b Unknown (Known v))
-          ≡ cond (not (a || b)) (Known (record { a = u.a + v.a; b = u.b + v.b; c = u.c + v.c })) Unknown
+          → joined_of (cond a None (Some u)) (cond b None (Some v))
+          ≡ cond (not (a || b)) (Some (record { a = u.a + v.a; b = u.b + v.b; c = u.c + v.c })) None
       both true b u v = refl
       both false true u v = refl
       both false false u v = refl

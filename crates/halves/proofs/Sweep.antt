@@ -1,16 +1,16 @@
 -- One pass over a run: the lowest and the highest sample tell whether one lies outside the limits, and where none does no sum has wrapped. Assumes nothing.
-use Rattle.std.proofs.Common.{◌≡◌, ℕ, zero, suc, ◌+◌, ◌*◌, ◌%◌, ◌^◌, ◌<◌, ◌≤◌, Bool, true, false, cond, ◌||◌, ltb, List, length, get_or, ℤ, pos, negsuc, sym, refl, ap, ◌∙◌, ⊎_elim, mod-eq_of_lt, add-one, arith, ltb-false, ltb-true, le-ltb, lt-ltb}
+use Rattle.std.proofs.Common.{◌≡◌, ℕ, zero, suc, ◌+◌, ◌*◌, ◌%◌, ◌^◌, ◌<◌, ◌≤◌, Bool, true, false, cond, ◌||◌, ltb, List, length, get_or, ℤ, pos, negsuc, sym, refl, ap, ◌∙◌, ⊎_elim, mod-eq_of_lt, add-one, arith, ltb-false, ltb-true, le-ltb, lt-ltb, Some, None}
 use native.Mathlib.Nat.{mod-add-mod}
 use native.Mathlib.Numerals.{add-two}
 use Rattle.rules.specs.Bounded.{any}
 use Rattle.rules.specs.Recorder.{sample_at}
 use Rattle.rules.specs.Halves.{samples_of, square}
-use Rattle.rules.specs.declared.Half.TheVariants.{Unknown, Known}
 use Rattle.rules.proofs.Booleans.{cases}
 use Rattle.rules.proofs.Bounded.{any_same, sum-next}
 use Rattle.checks.specs.Flags.{outside, too_low, too_high}
 use Rattle.checks.proofs.Tests.{outside_is}
-use Rattle.halves.specs.Steps.{lesser_of, greater_of, outside_in, squares_in, sums_in, step_in}
+use Rattle.std.specs.Int.{int_min, int_max}
+use Rattle.halves.specs.Steps.{outside_in, squares_in, sums_in, step_in}
 use Rattle.halves.proofs.Parts.{squares_in-low, low_run}
 
 -- ---- the lesser and the greater of two
@@ -18,6 +18,12 @@ use Rattle.halves.proofs.Parts.{squares_in-low, low_run}
 or_false : (a : Bool) → a ≡ a || false
 or_false true = refl
 or_false false = refl
+
+or_swap : (a b : Bool) → a || b ≡ b || a
+or_swap true true = refl
+or_swap true false = refl
+or_swap false true = refl
+or_swap false false = refl
 
 -- the larger of two lies above m exactly where one of them does
 above : (m a b : ℕ) → ltb m (cond (ltb a b) b a) ≡ ltb m a || ltb m b
@@ -33,7 +39,7 @@ above m a b = ⊎_elim up down (cases (ltb a b))
         rw e
         (⊎_elim (λ f. rw f) (λ f. rw (f, le-ltb m b (omega (arith, ltb-false a b e, ltb-false m a f)))) (cases (ltb m a)))
 
-lesser_low : (x y : ℤ) → too_low (lesser_of x y) ≡ too_low x || too_low y
+lesser_low : (x y : ℤ) → too_low (int_min x y) ≡ too_low x || too_low y
 lesser_low (pos a) (pos b) = neither (ltb b a)
   where
     neither : (t : Bool) → too_low (cond t (pos b) (pos a)) ≡ false
@@ -47,17 +53,17 @@ lesser_low (negsuc a) (negsuc b) = inside (ltb a b) ∙ above 99999 a b
     inside true = refl
     inside false = refl
 
-greater_high : (x y : ℤ) → too_high (greater_of x y) ≡ too_high x || too_high y
-greater_high (pos a) (pos b) = inside (ltb a b) ∙ above 100000 a b
+greater_high : (x y : ℤ) → too_high (int_max x y) ≡ too_high x || too_high y
+greater_high (pos a) (pos b) = inside (ltb b a) ∙ above 100000 b a ∙ or_swap (ltb 100000 b) (ltb 100000 a)
   where
-    inside : (t : Bool) → too_high (cond t (pos b) (pos a)) ≡ ltb 100000 (cond t b a)
+    inside : (t : Bool) → too_high (cond t (pos a) (pos b)) ≡ ltb 100000 (cond t a b)
     inside true = refl
     inside false = refl
 greater_high (pos a) (negsuc b) = or_false (ltb 100000 a)
 greater_high (negsuc a) (pos b) = refl
-greater_high (negsuc a) (negsuc b) = neither (ltb b a)
+greater_high (negsuc a) (negsuc b) = neither (ltb a b)
   where
-    neither : (t : Bool) → too_high (cond t (negsuc b) (negsuc a)) ≡ false
+    neither : (t : Bool) → too_high (cond t (negsuc a) (negsuc b)) ≡ false
     neither true = refl
     neither false = refl
 
@@ -86,13 +92,13 @@ module _ (test : ℤ → Bool) (pick : ℤ → ℤ → ℤ) (picks : (x y : ℤ)
 
 pub low-more : (w : List ℤ) (i : ℕ) (low x y z l₁ l₂ l₃ : ℤ) → too_low low ≡ some_below too_low w i
     → x ≡ get_or w (3 * i) (pos 0) → y ≡ get_or w (3 * i + 1) (pos 0) → z ≡ get_or w (3 * i + 2) (pos 0)
-    → l₁ ≡ lesser_of low x → l₂ ≡ lesser_of y z → l₃ ≡ lesser_of l₁ l₂ → too_low l₃ ≡ some_below too_low w (i + 1)
-low-more w i low x y z l₁ l₂ l₃ = more too_low lesser_of lesser_low w i low x y z l₁ l₂ l₃
+    → l₁ ≡ int_min low x → l₂ ≡ int_min y z → l₃ ≡ int_min l₁ l₂ → too_low l₃ ≡ some_below too_low w (i + 1)
+low-more w i low x y z l₁ l₂ l₃ = more too_low int_min lesser_low w i low x y z l₁ l₂ l₃
 
 pub high-more : (w : List ℤ) (i : ℕ) (high x y z h₁ h₂ h₃ : ℤ) → too_high high ≡ some_below too_high w i
     → x ≡ get_or w (3 * i) (pos 0) → y ≡ get_or w (3 * i + 1) (pos 0) → z ≡ get_or w (3 * i + 2) (pos 0)
-    → h₁ ≡ greater_of high x → h₂ ≡ greater_of y z → h₃ ≡ greater_of h₁ h₂ → too_high h₃ ≡ some_below too_high w (i + 1)
-high-more w i high x y z h₁ h₂ h₃ = more too_high greater_of greater_high w i high x y z h₁ h₂ h₃
+    → h₁ ≡ int_max high x → h₂ ≡ int_max y z → h₃ ≡ int_max h₁ h₂ → too_high h₃ ≡ some_below too_high w (i + 1)
+high-more w i high x y z h₁ h₂ h₃ = more too_high int_max greater_high w i high x y z h₁ h₂ h₃
 
 -- a sum, wrapped
 pub sum_more : (w : List ℤ) (c i a q a' : ℕ) → a ≡ squares_in w c i % 2 ^ 64 → q ≡ square (sample_at w c i) → a' ≡ (a + q) % 2 ^ 64
@@ -131,11 +137,11 @@ module _ (w : List ℤ) (n : ℕ) (all : n ≡ samples_of w) (few : length w ≤
       let fits : squares_in w c n < 2 ^ 64 = omega (arith, low, all, few) in
       f ∙ mod-eq_of_lt fits ∙ ap (squares_in w c) all
 
-  pub step-unknown : outside_in w ≡ true → Unknown ≡ step_in w
+  pub step-unknown : outside_in w ≡ true → None ≡ step_in w
   unfolding step_in
   step-unknown e = rw e
 
   pub step-known : outside_in w ≡ false → (a b c : ℕ) → a ≡ squares_in w 0 n % 2 ^ 64 → b ≡ squares_in w 1 n % 2 ^ 64 → c ≡ squares_in w 2 n % 2 ^ 64
-      → Known (record { a = a; b = b; c = c }) ≡ step_in w
+      → Some (record { a = a; b = b; c = c }) ≡ step_in w
   unfolding step_in sums_in
   step-known e a b c f g h = rw (e, exact e 0 a (omega arith) f, exact e 1 b (omega arith) g, exact e 2 c (omega arith) h)

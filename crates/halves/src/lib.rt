@@ -2,17 +2,21 @@
 // steps k and k + 1, unknown where one of them lacks a sample, and else their sums added.
 #![tactic(auto)]
 
-ghost use Rattle.std.specs.Prelude.{◌≡◌, ◌+◌, ◌*◌, ◌/◌, ◌%◌, ◌≤◌, true, length};
+ghost use Rattle.std.specs.Prelude.{◌≡◌, suc, ◌+◌, ◌*◌, ◌/◌, ◌%◌, ◌≤◌, true, length, Ok, Err, MatchResult};
 ghost use Rattle.rules.specs.Recorder.{settings_good, first_bad};
 ghost use Rattle.rules.specs.declared.Refusal.TheVariants.{Sample};
 ghost use Rattle.rules.specs.Halves.{square, begin, halves_of};
-ghost use Rattle.rules.specs.declared.Taken.TheVariants.{Accepted};
+ghost use Rattle.rules.specs.Refusals.{settings_check, recording_check, and_then};
 ghost use Rattle.checks.specs.Flags.{all_in_range, RangedBelow, shape_check};
-ghost use Rattle.halves.specs.Steps.{part, window, step_run, lesser_of, greater_of, step_in, step_at, joined_of, Addable};
+ghost use Rattle.kinds.specs.Machine.{thresholds_of};
+ghost use Rattle.halves.specs.Steps.{part, window, step_run, step_in, step_at, joined_of, Addable};
 
-use checks::{all_in_range, first_bad, is_too_high, is_too_low};
+use checks::{
+    all_in_range, check_settings, check_shape, count_halves, first_bad, is_too_high, is_too_low,
+};
+use kinds::{Thresholds, thresholds_of};
+use numbers::add_sums;
 use rules::{Half, Refusal, Settings, Sums};
-use std::num::wrapping_add_u64;
 
 // The square of any i32, at most 2 ^ 62.
 pub fn square(x: i32) -> u64
@@ -41,29 +45,6 @@ pub fn window_at<'a>(s: Settings, samples: &'a [i32], k: u64) -> &'a [i32]
     part_of(samples, k * (n / 2), n)
 }
 
-// The samples of step j: N/2 of each channel from sample j x N/2.
-fn run_of_step<'a>(s: Settings, samples: &'a [i32], j: u64) -> &'a [i32]
-    requires { 3 * begin s j + 3 * (s.n / 2) ≤ length samples.now }
-    ensures { result.now ≡ step_run s samples.now j }
-{
-    let n = s.n;
-    part_of(samples, j * (n / 2), n / 2)
-}
-
-// The lesser of two samples.
-fn lesser(x: i32, y: i32) -> i32
-    ensures { result ≡ lesser_of x y }
-{
-    if y < x { y } else { x }
-}
-
-// The greater of two samples.
-fn greater(x: i32, y: i32) -> i32
-    ensures { result ≡ greater_of x y }
-{
-    if x < y { y } else { x }
-}
-
 // A step's three sums of squares; unknown where a sample is missing, or bad. One pass, with no branch: the sums may wrap where a sample
 // lies outside the limits, and the lowest and the highest, 0 among them, tell whether one does.
 fn step_of(w: &[i32]) -> Half
@@ -77,40 +58,97 @@ fn step_of(w: &[i32]) -> Half
     let mut c: u64 = 0;
     let mut low: i32 = 0;
     let mut high: i32 = 0;
-    let mut i: usize = 0;
-    while i < n {
+    for i in 0..n {
         let x = w[3 * i];
         let y = w[3 * i + 1];
         let z = w[3 * i + 2];
-        low = lesser(lesser(low, x), lesser(y, z));
-        high = greater(greater(high, x), greater(y, z));
-        a = wrapping_add_u64(a, square(x));
-        b = wrapping_add_u64(b, square(y));
-        c = wrapping_add_u64(c, square(z));
-        i += 1;
+        low = low.min(x).min(y.min(z));
+        high = high.max(x).max(y.max(z));
+        a = a.wrapping_add(square(x));
+        b = b.wrapping_add(square(y));
+        c = c.wrapping_add(square(z));
     }
     if is_too_low(low) | is_too_high(high) {
-        return Half::Unknown;
+        return None;
     }
-    Half::Known(Sums { a: a, b: b, c: c })
+    Some(Sums { a, b, c })
 }
 
-// Step j of a recording of good length, which has H + 1 of them.
-pub fn step_at(s: Settings, samples: &[i32], j: u64) -> Half
-    requires { (settings_good s ≡ true) × (shape_check s samples.now ≡ Accepted) × (j ≤ halves_of s samples.now) }
-    ensures { result ≡ step_at s samples.now j }
-{
-    step_of(run_of_step(s, samples, j))
+// A recording of good length: its settings are each in their range, and nothing in its length is refused. How many half-cycles it has,
+// and the thresholds that its settings make, are worked out once.
+#[derive(Clone, Copy)]
+pub struct Recording<'a> {
+    pub settings: Settings,
+    pub samples: &'a [i32],
+    pub halves: u64,
+    pub thresholds: Thresholds,
+    ghost good: { settings_good settings ≡ true },
+    ghost shaped: { shape_check settings samples.now ≡ Ok tt },
+    ghost counted: { halves ≡ halves_of settings samples.now },
+    ghost marked: { thresholds ≡ thresholds_of settings },
 }
 
-// Whether step j, which was found as `step`, has no bad sample: it is looked at again only where it is unknown.
-pub fn step_in_range(s: Settings, samples: &[i32], j: u64, step: Half) -> bool
-    requires { (settings_good s ≡ true) × (shape_check s samples.now ≡ Accepted) × (j ≤ halves_of s samples.now) × (step ≡ step_at s samples.now j) }
-    ensures { result ≡ all_in_range (step_run s samples.now j) }
-{
-    match step {
-        Half::Known(_) => true,
-        Half::Unknown => all_in_range(run_of_step(s, samples, j)),
+impl<'a> Recording<'a> {
+    // Refusals 1 to 5, in their order.
+    pub fn new(settings: Settings, samples: &'a [i32]) -> Result<Recording<'a>, Refusal>
+        ensures { MatchResult result (λ r. (r.settings ≡ settings) × (r.samples.now ≡ samples.now) × (and_then (settings_check settings) (shape_check settings samples.now) ≡ Ok tt)) (λ q. and_then (settings_check settings) (shape_check settings samples.now) ≡ Err q) }
+    {
+        check_settings(settings)?;
+        Recording::with_good_settings(settings, samples)
+    }
+
+    // Refusals 2 to 5, where the settings are known to be good.
+    pub fn with_good_settings(
+        settings: Settings,
+        samples: &'a [i32],
+    ) -> Result<Recording<'a>, Refusal>
+        requires { settings_good settings ≡ true }
+        ensures { MatchResult result (λ r. (r.settings ≡ settings) × (r.samples.now ≡ samples.now) × (shape_check settings samples.now ≡ Ok tt)) (λ q. shape_check settings samples.now ≡ Err q) }
+    {
+        check_shape(settings, samples)?;
+        Ok(Recording {
+            settings,
+            samples,
+            halves: count_halves(settings, samples),
+            thresholds: thresholds_of(settings),
+        })
+    }
+
+    // The samples of step j: N/2 of each channel from sample j x N/2.
+    fn run_of_step(&self, j: u64) -> &'a [i32]
+        requires { j ≤ self.now.halves }
+        ensures { result.now ≡ step_run self.now.settings self.now.samples.now j }
+    {
+        let n = self.settings.n;
+        part_of(self.samples, j * (n / 2), n / 2)
+    }
+
+    // Step j. There are H + 1 of them.
+    pub fn step_at(&self, j: u64) -> Half
+        requires { j ≤ self.now.halves }
+        ensures { result ≡ step_at self.now.settings self.now.samples.now j }
+    {
+        step_of(self.run_of_step(j))
+    }
+
+    // Whether step j, which was found as `step`, has no bad sample: it is looked at again only where it is unknown.
+    pub fn step_in_range(&self, j: u64, step: Half) -> bool
+        requires { (j ≤ self.now.halves) × (step ≡ step_at self.now.settings self.now.samples.now j) }
+        ensures { result ≡ all_in_range (step_run self.now.settings self.now.samples.now j) }
+    {
+        step.is_some() || all_in_range(self.run_of_step(j))
+    }
+
+    // Refusal 6, where step j, which was found as `step`, has a bad sample and none before it has.
+    pub fn check_step(&self, j: u64, step: Half) -> Result<(), Refusal>
+        requires { (j ≤ self.now.halves) × (step ≡ step_at self.now.settings self.now.samples.now j) × RangedBelow self.now.samples.now (3 * begin self.now.settings j) }
+        ensures { MatchResult result (λ u. RangedBelow self.now.samples.now (3 * begin self.now.settings (suc j))) (λ q. recording_check self.now.settings self.now.samples.now ≡ Err q) }
+    {
+        if self.step_in_range(j, step) {
+            Ok(())
+        } else {
+            Err(bad_sample(self.settings, self.samples, j))
+        }
     }
 }
 
@@ -128,15 +166,5 @@ pub fn joined(p: Half, q: Half) -> Half
     requires { Addable p × Addable q }
     ensures { result ≡ joined_of p q }
 {
-    let Half::Known(u) = p else {
-        return Half::Unknown;
-    };
-    let Half::Known(v) = q else {
-        return Half::Unknown;
-    };
-    Half::Known(Sums {
-        a: u.a + v.a,
-        b: u.b + v.b,
-        c: u.c + v.c,
-    })
+    Some(add_sums(p?, q?))
 }

@@ -1,8 +1,9 @@
 -- The event that is going on before half-cycle k: where it started, all that it has met so far, and what it comes to when k ends
 -- it. Assumes nothing.
+use Rattle.std.specs.Prelude.{Option, Some, None, is_some}
 use Prim.Native.Nat.{ℕ, zero, suc, ◌-◌, ◌≤◌, ◌<◌, min, max}
-use mathlib.Core.Path.{◌≡◌, refl, sym, subst, ◌∙◌}
-use mathlib.Core.Bool.{true, false, not, cond, false≢true}
+use mathlib.Core.Path.{◌≡◌, refl, sym, ap, subst, ◌∙◌}
+use mathlib.Core.Bool.{true, false, not, cond}
 use mathlib.Core.Logic.{⊎_elim}
 use mathlib.Core.List.{List}
 use native.Mathlib.Nat.{eq-or-lt_of_le}
@@ -11,7 +12,7 @@ use borrow.Author.Tests.{ltb-true, ltb-false, eqb-true, eqb-false, eq-eqb, ne_eq
 use lib.Dec.{ltb, eqb}
 use lib.IntN.{ℤ}
 use Rattle.rules.specs.Bounded.{before}
-use Rattle.rules.specs.Halves.{known, half_at, halves_of}
+use Rattle.rules.specs.Halves.{Half, known, half_at, halves_of}
 use Rattle.rules.specs.Events.{in_event, starts, end_of, seen_of, level, worse, worst, extreme_of, earliest, shorts, shorts_of}
 use Rattle.rules.specs.EventList.{event_from}
 use Rattle.rules.proofs.Booleans.{cases}
@@ -19,12 +20,11 @@ use Rattle.rules.proofs.Choices.{of_cond}
 use Rattle.rules.proofs.Runs.{first_is, first_ends}
 use Rattle.rules.proofs.Shortfall.{from_one, from_more}
 use Rattle.rules.specs.declared.Settings.{Settings}
-use Rattle.rules.specs.declared.Half.{Half}
 use Rattle.rules.specs.declared.Kind.{Kind}
 use Rattle.rules.specs.declared.Kind.TheVariants.{Sag, Interruption, Swell}
 use Rattle.kinds.specs.declared.Level.{Level}
 use Rattle.kinds.specs.declared.Open.{Open}
-use Rattle.kinds.specs.Machine.{level_of, peak_of, add_sums, lasting, launched, opens, Going, finished_by}
+use Rattle.kinds.specs.Machine.{peak_of, add_sums, lasting, launched, opens, Going, finished_by}
 use Rattle.kinds.proofs.Machine.{peak_is, short_is, inside_is, opens_lasts, opens_launches}
 
 -- ---- the worst of a range, a turn at a time
@@ -139,16 +139,25 @@ module _ (s : Settings) (h : ℕ → Half) (kind : Kind) where
         short = short;
       }
 
-  -- THE LAW: inside, the machine holds the event that is going on
-  pub open_is_going : (k : ℕ) → (opens s h kind k).inside ≡ true → Going s h kind k (opens s h kind k)
+  -- THE LAW: what the machine holds before half-cycle k is the event that is going on
+  pub open_is_going : (k : ℕ) (o : Open) → opens s h kind k ≡ Some o → Going s h kind k o
   unfolding opens
-  open_is_going zero e = absurd (false≢true e)
-  open_is_going (suc k) e =
-      let i : in_event s h kind k ≡ true = sym (inside_is s h kind (suc k)) ∙ e in
-      ⊎_elim
-      (λ was. rw (opens_lasts s h kind k i was) (at_last k (opens s h kind k) (level_of s (h k)) (peak_is s kind (h k)) (short_is s (h k)) i (open_is_going k was)))
-      (λ was. rw (opens_launches s h kind k i was) (at-launch k (level_of s (h k)) (peak_is s kind (h k)) (short_is s (h k)) i (sym (inside_is s h kind k) ∙ was)))
-      (cases (opens s h kind k).inside)
+  open_is_going zero o e = let z : ◌≡◌ {A = ℕ} 0 1 = cc in absurd (omega arith)
+  open_is_going (suc k) o e =
+      let i : in_event s h kind k ≡ true = sym (inside_is s h kind (suc k)) ∙ ap is_some e in
+      by (λ w f. open_is_going k w f) (opens s h kind k) refl i
+    where
+      by : ((w : Open) → opens s h kind k ≡ Some w → Going s h kind k w)
+          → (was : Option Open) → opens s h kind k ≡ was → in_event s h kind k ≡ true → Going s h kind (suc k) o
+      by before_is (Some w) f i =
+          let n = opens_lasts s h kind k w i f in
+          let same : o ≡ lasting kind k w n.0 = let q : Some o ≡ Some (lasting kind k w n.0) = sym e ∙ n.2 in cc in
+          rw same (at_last k w n.0 (peak_is s kind (h k) n.0 n.1) (short_is s (h k) n.0 n.1) i (before_is w f))
+      by before_is None f i =
+          let n = opens_launches s h kind k i f in
+          let same : o ≡ launched kind (before (λ j. known (h j)) k) k n.0 =
+          let q : Some o ≡ Some (launched kind (before (λ j. known (h j)) k) k n.0) = sym e ∙ n.2 in cc in
+          rw same (at-launch k n.0 (peak_is s kind (h k) n.0 n.1) (short_is s (h k) n.0 n.1) i (sym (inside_is s h kind k) ∙ ap is_some f))
 
   -- an event that half-cycle k ends: it ends there, and its extreme is where the machine says
   module _ (n k : ℕ) (o : Open) (g : Going s h kind k o) (u : k ≤ n) (out : in_event s h kind k ≡ false) where

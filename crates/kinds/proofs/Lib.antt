@@ -2,3 +2,4 @@
 pub mod Machine
 pub mod Going
 pub mod Limits
+pub mod Followed

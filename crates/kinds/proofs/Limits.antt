@@ -1,38 +1,37 @@
 -- What keeps the machine's numbers within 64 bits, for an accepted recording. Assumes nothing.
+use Rattle.std.specs.Prelude.{Option, Some, None, is_some, IfSome}
 use Prim.Native.Nat.{ℕ, zero, suc, ◌+◌, ◌*◌, ◌≤◌}
-use mathlib.Core.Path.{◌≡◌, refl}
+use mathlib.Core.Path.{◌≡◌, refl, sym, ap, ◌∙◌}
 use mathlib.Core.Bool.{true}
-use mathlib.Core.Logic.{⊎_elim}
 use mathlib.Core.List.{List}
 use native.Mathlib.Nat.{mul-le-mul, mul-le-mul_right, suc-mul}
 use native.Mathlib.Omega.{arith}
 use lib.Dec.{ltb}
 use lib.IntN.{ℤ}
-use Rattle.rules.specs.Halves.{half_at, full}
+use Rattle.rules.specs.Bounded.{before}
+use Rattle.rules.specs.Halves.{Half, known, half_at, full}
 use Rattle.rules.specs.Events.{in_event}
 use Rattle.rules.specs.Demands.{Good, AcceptedRecording}
-use Rattle.rules.proofs.Booleans.{cases}
 use Rattle.rules.proofs.DemandTwo.{extreme-high, short-high}
 use Rattle.rules.proofs.Ranges.{full-high}
 use Rattle.rules.proofs.Samples.{sums-low}
 use Rattle.rules.proofs.Longest.{in_known}
 use Rattle.rules.specs.declared.Settings.{Settings}
 use Rattle.rules.specs.declared.Sums.{Sums}
-use Rattle.rules.specs.declared.Half.{Half}
-use Rattle.rules.specs.declared.Half.TheVariants.{Unknown, Known}
 use Rattle.rules.specs.declared.Kind.{Kind}
+use Rattle.kinds.specs.declared.Level.{Level}
 use Rattle.kinds.specs.declared.Open.{Open}
-use Rattle.kinds.specs.Machine.{mark_of, thresholds_of, short_by, level_from, level_of, opens, Going, Marked, Few, Light, Finishable}
-use Rattle.kinds.proofs.Machine.{opens-closed, opens_lasts, opens_launches}
+use Rattle.kinds.specs.Machine.{mark_of, thresholds_of, short_by, level_sums, level_from, level_of, launched, lasting, opens, Going, Marked, Few, Light, Finishable}
+use Rattle.kinds.proofs.Machine.{inside_is, opens_lasts, opens_launches}
 use Rattle.kinds.proofs.Going.{open_is_going}
 
 -- a half-cycle's shortfall of a channel is at most N x R x R
 abbrev pub Small : Sums → ℕ → Type 0
 Small v b = (v.a ≤ b) × (v.b ≤ b) × (v.c ≤ b)
 
-pub level_small : (full from : ℕ) (v : Half) → Small (level_from full from v).short full
-level_small full from Unknown = (omega arith, omega arith, omega arith)
-level_small full from (Known v) = (high v.a, high v.b, high v.c)
+pub level_small : (full from : ℕ) (v : Half) (l : Level) → level_from full from v ≡ Some l → Small l.short full
+level_small full from None l e = let z : ◌≡◌ {A = ℕ} 0 1 = cc in absurd (omega arith)
+level_small full from (Some v) l e = let i : l ≡ level_sums full from v = cc in rw i (high v.a, high v.b, high v.c)
   where
     high : (x : ℕ) → short_by full from x ≤ full
     high x = short-high (ltb (10000 * x) from) full x
@@ -48,9 +47,9 @@ module _ (s : Settings) (xs : List ℤ) (g : Good s) (ok : AcceptedRecording s x
   n_high : s.n * 10000000000 ≤ 5120000000000
   n_high = omega (arith, g.n_high)
 
-  few-known : (v : Half) → ((w : Sums) → v ≡ Known w → Small w (s.n * 10000000000)) → Few v
-  few-known Unknown f = tt
-  few-known (Known w) f = let r = f w refl in (omega (arith, n_high, r.0), omega (arith, n_high, r.1), omega (arith, n_high, r.2))
+  few-known : (v : Half) → ((w : Sums) → v ≡ Some w → Small w (s.n * 10000000000)) → Few v
+  few-known None f = tt
+  few-known (Some w) f = let r = f w refl in (omega (arith, n_high, r.0), omega (arith, n_high, r.1), omega (arith, n_high, r.2))
 
   pub few-half : (k : ℕ) → Few (half_at s xs k)
   few-half k = few-known (half_at s xs k) (λ w e. sums-low s xs g ok k w e)
@@ -74,36 +73,50 @@ module _ (s : Settings) (xs : List ℤ) (g : Good s) (ok : AcceptedRecording s x
   small_first y k q =
       let e : suc k * full s ≡ k * full s + full s = suc-mul k (full s) in (omega (arith, q.0), omega (arith, q.1), omega (arith, q.2))
 
-  level_at_small : (k : ℕ) → Small (level_of s (h k)).short (full s)
+  level_at_small : (k : ℕ) (l : Level) → level_of s (h k) ≡ Some l → Small l.short (full s)
   unfolding level_of
-  level_at_small k = level_small (full s) (mark_of s s.sag) (h k)
+  level_at_small k l e = level_small (full s) (mark_of s s.sag) (h k) l e
 
-  pub opens_small : (kind : Kind) (k : ℕ) → Small (opens s h kind k).short (k * full s)
+  pub opens_small : (kind : Kind) (k : ℕ) (o : Open) → opens s h kind k ≡ Some o → Small o.short (k * full s)
   unfolding opens
-  opens_small kind zero = (omega arith, omega arith, omega arith)
-  opens_small kind (suc k) =
-      ⊎_elim
-      (λ i. ⊎_elim
-      (λ w. rw (opens_lasts s h kind k i w) (small_more (opens s h kind k).short (level_of s (h k)).short k (opens_small kind k) (level_at_small k)))
-      (λ w. rw (opens_launches s h kind k i w) (small_first (level_of s (h k)).short k (level_at_small k)))
-      (cases (opens s h kind k).inside))
-      (λ i. rw (opens-closed s h kind k i) (omega arith, omega arith, omega arith))
-      (cases (in_event s h kind k))
+  opens_small kind zero o e = let z : ◌≡◌ {A = ℕ} 0 1 = cc in absurd (omega arith)
+  opens_small kind (suc k) o e =
+      by (λ w f. opens_small kind k w f) (opens s h kind k) refl (sym (inside_is s h kind (suc k)) ∙ ap is_some e)
+    where
+      by : ((w : Open) → opens s h kind k ≡ Some w → Small w.short (k * full s))
+          → (was : Option Open) → opens s h kind k ≡ was → in_event s h kind k ≡ true → Small o.short (suc k * full s)
+      by before_is (Some w) f i =
+          let n = opens_lasts s h kind k w i f in
+          let same : o ≡ lasting kind k w n.0 = let q : Some o ≡ Some (lasting kind k w n.0) = sym e ∙ n.2 in cc in
+          rw same (small_more w.short n.0.short k (before_is w f) (level_at_small k n.0 n.1))
+      by before_is None f i =
+          let n = opens_launches s h kind k i f in
+          let same : o ≡ launched kind (before (λ j. known (h j)) k) k n.0 =
+          let q : Some o ≡ Some (launched kind (before (λ j. known (h j)) k) k n.0) = sym e ∙ n.2 in cc in
+          rw same (small_first n.0.short k (level_at_small k n.0 n.1))
 
   k_high : (k : ℕ) → k ≤ 100001 → k * full s ≤ 1000000000000000000
   k_high k l = let r : k * full s ≤ 100001 * 1280000000000 = mul-le-mul l (full-high s g) in omega arith
 
-  pub opens-light : (kind : Kind) (k : ℕ) → k ≤ 100001 → Light (opens s h kind k).short
-  opens-light kind k l = light (opens s h kind k).short (k * full s) (k_high k l) (opens_small kind k)
+  pub opens-light : (kind : Kind) (k : ℕ) → k ≤ 100001 → IfSome (opens s h kind k) (λ o. Light o.short)
+  opens-light kind k u = by (opens s h kind k) refl
+    where
+      by : (was : Option Open) → opens s h kind k ≡ was → IfSome was (λ o. Light o.short)
+      by None e = tt
+      by (Some o) e = light o.short (k * full s) (k_high k u) (opens_small kind k o e)
 
-  pub level-light : (k : ℕ) → Light (level_of s (h k)).short
-  level-light k = light (level_of s (h k)).short (full s) (omega (arith, full-high s g)) (level_at_small k)
+  pub level-light : (k : ℕ) → IfSome (level_of s (h k)) (λ l. Light l.short)
+  level-light k = by (level_of s (h k)) refl
+    where
+      by : (level : Option Level) → level_of s (h k) ≡ level → IfSome level (λ l. Light l.short)
+      by None e = tt
+      by (Some l) e = light l.short (full s) (omega (arith, full-high s g)) (level_at_small k l e)
 
-  pub finishable : (kind : Kind) (k : ℕ) → k ≤ 100001 → (opens s h kind k).inside ≡ true → Finishable s xs (opens s h kind k)
-  finishable kind k l i =
-      let w = open_is_going s h kind k i in
+  pub finishable : (kind : Kind) (k : ℕ) (o : Open) → k ≤ 100001 → opens s h kind k ≡ Some o → Finishable s xs o
+  finishable kind k o l i =
+      let w = open_is_going s h kind k o i in
       record {
-        light = opens-light kind k l;
-        extreme = extreme-low kind k (opens s h kind k) w;
-        at = in_known s h kind (opens s h kind k).at (w.through (opens s h kind k).at w.at_low w.at_high);
+        light = light o.short (k * full s) (k_high k l) (opens_small kind k o i);
+        extreme = extreme-low kind k o w;
+        at = in_known s h kind o.at (w.through o.at w.at_low w.at_high);
       }

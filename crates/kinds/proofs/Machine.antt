@@ -1,47 +1,47 @@
 -- The machine of a kind says what the rules say: its state before half-cycle k is the event that is going on there. Assumes nothing.
+use Rattle.std.specs.Prelude.{Option, Some, None, is_some}
 use Prim.Native.Nat.{ℕ, zero, suc, ◌+◌, ◌-◌, ◌*◌, min, max}
 use mathlib.Core.Path.{◌≡◌, refl, sym, ap, ◌∙◌}
-use mathlib.Core.Bool.{Bool, true, false, not, ◌&&◌, ◌||◌}
-use mathlib.Core.Logic.{⊎_elim}
+use mathlib.Core.Bool.{Bool, true, false, not, ◌&&◌, ◌||◌, cond, false≢true}
 use native.Mathlib.Omega.{arith}
 use borrow.Author.Tests.{ltb-true, ltb-false, lt-ltb, le-ltb, leb-true, leb-false}
 use lib.Dec.{ltb, leb}
 use Rattle.rules.specs.Bounded.{before}
-use Rattle.rules.specs.Halves.{known}
+use Rattle.rules.specs.Halves.{Half, known, full}
 use Rattle.rules.specs.Events.{in_event, level, shorts}
-use Rattle.rules.proofs.Booleans.{cases}
 use Rattle.rules.specs.Demands.{goes_on}
+use Rattle.rules.proofs.Longest.{in_known}
 use Rattle.rules.proofs.Runs.{in_next}
 use Rattle.rules.specs.declared.Settings.{Settings}
 use Rattle.rules.specs.declared.Sums.{Sums}
-use Rattle.rules.specs.declared.Half.{Half}
-use Rattle.rules.specs.declared.Half.TheVariants.{Unknown, Known}
 use Rattle.rules.specs.declared.Kind.{Kind}
 use Rattle.rules.specs.declared.Kind.TheVariants.{Sag, Interruption, Swell}
 use Rattle.kinds.specs.declared.Marks.{Marks}
 use Rattle.kinds.specs.declared.Thresholds.{Thresholds}
 use Rattle.kinds.specs.declared.Level.{Level}
 use Rattle.kinds.specs.declared.Open.{Open}
-use Rattle.kinds.specs.Machine.{mark_of, marks_of, thresholds_of, level_from, level_of, peak_of, goes_by, step_by, lasting, launched, closed, opens}
+use Rattle.kinds.specs.Machine.{mark_of, marks_of, thresholds_of, level_sums, level_from, level_of, peak_of, goes_level, goes_by, step_by, carried, lasting, launched, opens}
 
 -- the level by the thresholds of a pass is that by the settings
-pub level_is : (s : Settings) (m : Thresholds) (v w : Half) (l : Level) → m ≡ thresholds_of s → v ≡ w → l ≡ level_from m.full m.sag.from v → l ≡ level_of s w
+pub level_is : (s : Settings) (m : Thresholds) (v w : Half) (l : Option Level) → m ≡ thresholds_of s → v ≡ w → l ≡ level_from m.full m.sag.from v → l ≡ level_of s w
 unfolding level_of
 level_is s m v w l e f g = g ∙ rw (e, f)
 
 -- ---- the three cases of a step
-module _ (kind : Kind) (m : Marks) (seen : Bool) (k : ℕ) (o : Open) (l : Level) where
-  pub step-closed : goes_by kind m o.inside l ≡ false → step_by kind m seen k o l ≡ closed
+module _ (kind : Kind) (m : Marks) (seen : Bool) (k : ℕ) where
+  pub step-closed : (o : Option Open) (l : Option Level) → goes_by kind m (is_some o) l ≡ false → step_by kind m seen k o l ≡ None
   unfolding step_by
-  step-closed p = rw p
+  step-closed o None p = refl
+  step-closed o (Some l) p = rw p
 
-  pub step_lasts : goes_by kind m o.inside l ≡ true → o.inside ≡ true → step_by kind m seen k o l ≡ lasting kind k o l
+  pub step_carries : (o : Option Open) (l : Level) → goes_by kind m (is_some o) (Some l) ≡ true → step_by kind m seen k o (Some l) ≡ Some (carried kind seen k o l)
   unfolding step_by
-  step_lasts p q = rw (p, q)
+  step_carries o l p = rw p
 
-  pub step_launches : goes_by kind m o.inside l ≡ true → o.inside ≡ false → step_by kind m seen k o l ≡ launched kind seen k l
-  unfolding step_by
-  step_launches p q = rw (p, q)
+  -- what is carried on, of a known half-cycle
+  pub step-made : (o : Option Open) (level : Option Level) (l : Level) (r : Open) → level ≡ Some l → goes_by kind m (is_some o) level ≡ true
+      → r ≡ carried kind seen k o l → Some r ≡ step_by kind m seen k o level
+  step-made o level l r e p q = rw e (ap Some q ∙ sym (step_carries o l (rw e at p)))
 
 -- ---- a step's test is the rules' test
 
@@ -89,7 +89,7 @@ greatest_down a b c m true false r e f g = lt-ltb m (10000 * max (max a b) c) (o
 greatest_down a b c m false q r e f g = lt-ltb m (10000 * max (max a b) c) (omega (arith, leb-false (10000 * a) m e))
 
 module _ (s : Settings) (inside : Bool) where
-  goes_known : (kind : Kind) (v : Sums) → goes_by kind (marks_of s kind) inside (level_of s (Known v)) ≡ goes_on s kind inside (Known v)
+  goes_known : (kind : Kind) (v : Sums) → goes_by kind (marks_of s kind) inside (level_of s (Some v)) ≡ goes_on s kind inside (Some v)
   unfolding goes_by level_of
   goes_known Sag v =
       rw (
@@ -109,39 +109,52 @@ module _ (s : Settings) (inside : Bool) where
 
   pub goes_is : (kind : Kind) (v : Half) → goes_by kind (marks_of s kind) inside (level_of s v) ≡ goes_on s kind inside v
   unfolding goes_by level_of
-  goes_is Sag Unknown = refl
-  goes_is Interruption Unknown = refl
-  goes_is Swell Unknown = refl
-  goes_is kind (Known v) = goes_known kind v
+  goes_is Sag None = refl
+  goes_is Interruption None = refl
+  goes_is Swell None = refl
+  goes_is kind (Some v) = goes_known kind v
 
 -- ---- what the machine asks of a level is what the rules say of the half-cycle
 
-pub peak_is : (s : Settings) (kind : Kind) (v : Half) → peak_of kind (level_of s v) ≡ level kind v
-unfolding level_of
-peak_is s Sag Unknown = refl
-peak_is s Sag (Known v) = refl
-peak_is s Interruption Unknown = refl
-peak_is s Interruption (Known v) = refl
-peak_is s Swell Unknown = refl
-peak_is s Swell (Known v) = refl
+module _ (s : Settings) where
+  abbrev level_for : Sums → Level
+  level_for v = level_sums (full s) (mark_of s s.sag) v
 
-pub short_is : (s : Settings) (v : Half) → (level_of s v).short ≡ shorts s v
-unfolding level_of
-short_is s Unknown = refl
-short_is s (Known v) = refl
+  peak_known : (kind : Kind) (v : Sums) → peak_of kind (level_for v) ≡ level kind (Some v)
+  peak_known Sag v = refl
+  peak_known Interruption v = refl
+  peak_known Swell v = refl
 
-pub level-known : (s : Settings) (v : Half) → (level_of s v).known ≡ known v
-unfolding level_of
-level-known s Unknown = refl
-level-known s (Known v) = refl
+  pub peak_is : (kind : Kind) (v : Half) (l : Level) → level_of s v ≡ Some l → peak_of kind l ≡ level kind v
+  unfolding level_of
+  peak_is kind None l e = let z : ◌≡◌ {A = ℕ} 0 1 = cc in absurd (omega arith)
+  peak_is kind (Some v) l e = let i : l ≡ level_for v = cc in rw i (peak_known kind v)
 
-step_inside : (kind : Kind) (m : Marks) (seen : Bool) (k : ℕ) (o : Open) (l : Level)
-    → (step_by kind m seen k o l).inside ≡ goes_by kind m o.inside l
-step_inside kind m seen k o l =
-    ⊎_elim
-    (λ g. ⊎_elim (λ i. rw (step_lasts kind m seen k o l g i) (sym g)) (λ i. rw (step_launches kind m seen k o l g i) (sym g)) (cases o.inside))
-    (λ g. rw (step-closed kind m seen k o l g) (sym g))
-    (cases (goes_by kind m o.inside l))
+  pub short_is : (v : Half) (l : Level) → level_of s v ≡ Some l → l.short ≡ shorts s v
+  unfolding level_of
+  short_is None l e = let z : ◌≡◌ {A = ℕ} 0 1 = cc in absurd (omega arith)
+  short_is (Some v) l e = let i : l ≡ level_for v = cc in rw i
+
+  pub level-known : (v : Half) → is_some (level_of s v) ≡ known v
+  unfolding level_of
+  level-known None = refl
+  level-known (Some v) = refl
+
+  -- a known half-cycle has a level
+  pub has_level : (v : Half) → known v ≡ true → (l : Level) × (level_of s v ≡ Some l)
+  unfolding level_of
+  has_level None e = absurd (false≢true e)
+  has_level (Some v) e = (level_for v, refl)
+
+step_inside : (kind : Kind) (m : Marks) (seen : Bool) (k : ℕ) (o : Option Open) (l : Option Level)
+    → is_some (step_by kind m seen k o l) ≡ goes_by kind m (is_some o) l
+unfolding step_by goes_by
+step_inside kind m seen k o None = refl
+step_inside kind m seen k o (Some l) = by (goes_level kind m (is_some o) l)
+  where
+    by : (b : Bool) → is_some (cond b (Some (carried kind seen k o l)) None) ≡ b
+    by true = refl
+    by false = refl
 
 module _ (s : Settings) (h : ℕ → Half) (kind : Kind) where
   -- the test at half-cycle k, from where the kind stood before
@@ -149,38 +162,45 @@ module _ (s : Settings) (h : ℕ → Half) (kind : Kind) where
   goes_here k = goes_is s (before (in_event s h kind) k) kind (h k) ∙ sym (in_next s h kind k)
 
   -- THE LAW: the machine is inside an event before half-cycle k exactly if half-cycle k - 1 is in one
-  pub inside_is : (k : ℕ) → (opens s h kind k).inside ≡ before (in_event s h kind) k
+  pub inside_is : (k : ℕ) → is_some (opens s h kind k) ≡ before (in_event s h kind) k
   unfolding opens
   inside_is zero = refl
   inside_is (suc k) =
       step_inside kind (marks_of s kind) (before (λ j. known (h j)) k) k (opens s h kind k) (level_of s (h k))
-      ∙ goes_is s (opens s h kind k).inside kind (h k)
+      ∙ goes_is s (is_some (opens s h kind k)) kind (h k)
       ∙ rw (inside_is k) (sym (in_next s h kind k))
 
   -- the same of a state that stands there
-  pub inside_of : (k : ℕ) {o : Open} → o ≡ opens s h kind k → o.inside ≡ before (in_event s h kind) k
-  inside_of k e = ap (λ (o : Open). o.inside) e ∙ inside_is k
+  pub inside_of : (k : ℕ) {o : Option Open} → o ≡ opens s h kind k → is_some o ≡ before (in_event s h kind) k
+  inside_of k e = ap is_some e ∙ inside_is k
 
   -- where half-cycle k is in an event or not, what the step does
-  goes_at : (k : ℕ) → goes_by kind (marks_of s kind) (opens s h kind k).inside (level_of s (h k)) ≡ in_event s h kind k
-  goes_at k = goes_is s (opens s h kind k).inside kind (h k) ∙ rw (inside_is k) (sym (in_next s h kind k))
+  goes_at : (k : ℕ) → goes_by kind (marks_of s kind) (is_some (opens s h kind k)) (level_of s (h k)) ≡ in_event s h kind k
+  goes_at k = goes_is s (is_some (opens s h kind k)) kind (h k) ∙ rw (inside_is k) (sym (in_next s h kind k))
 
-  pub opens-closed : (k : ℕ) → in_event s h kind k ≡ false → opens s h kind (suc k) ≡ closed
+  pub opens-closed : (k : ℕ) → in_event s h kind k ≡ false → opens s h kind (suc k) ≡ None
   unfolding opens
   opens-closed k e = step-closed kind (marks_of s kind) _ k (opens s h kind k) (level_of s (h k)) (goes_at k ∙ e)
 
-  pub opens_lasts : (k : ℕ) → in_event s h kind k ≡ true → (opens s h kind k).inside ≡ true
-      → opens s h kind (suc k) ≡ lasting kind k (opens s h kind k) (level_of s (h k))
+  pub opens_carries : (k : ℕ) → in_event s h kind k ≡ true
+      → (l : Level) × (level_of s (h k) ≡ Some l) × (opens s h kind (suc k) ≡ Some (carried kind (before (λ j. known (h j)) k) k (opens s h kind k) l))
   unfolding opens
-  opens_lasts k e i = step_lasts kind (marks_of s kind) _ k (opens s h kind k) (level_of s (h k)) (goes_at k ∙ e) i
+  opens_carries k e =
+      let l = has_level s (h k) (in_known s h kind k e) in
+      let g : goes_by kind (marks_of s kind) (is_some (opens s h kind k)) (Some l.0) ≡ true =
+      ap (goes_by kind (marks_of s kind) (is_some (opens s h kind k))) (sym l.1) ∙ goes_at k ∙ e in
+      (l.0, l.1, rw l.1 (step_carries kind (marks_of s kind) (before (λ j. known (h j)) k) k (opens s h kind k) l.0 g))
 
-  pub opens_launches : (k : ℕ) → in_event s h kind k ≡ true → (opens s h kind k).inside ≡ false
-      → opens s h kind (suc k) ≡ launched kind (before (λ j. known (h j)) k) k (level_of s (h k))
-  unfolding opens
-  opens_launches k e i = step_launches kind (marks_of s kind) _ k (opens s h kind k) (level_of s (h k)) (goes_at k ∙ e) i
+  pub opens_lasts : (k : ℕ) (o : Open) → in_event s h kind k ≡ true → opens s h kind k ≡ Some o
+      → (l : Level) × (level_of s (h k) ≡ Some l) × (opens s h kind (suc k) ≡ Some (lasting kind k o l))
+  opens_lasts k o e i = let c = opens_carries k e in (c.0, c.1, c.2 ∙ rw i)
+
+  pub opens_launches : (k : ℕ) → in_event s h kind k ≡ true → opens s h kind k ≡ None
+      → (l : Level) × (level_of s (h k) ≡ Some l) × (opens s h kind (suc k) ≡ Some (launched kind (before (λ j. known (h j)) k) k l))
+  opens_launches k e i = let c = opens_carries k e in (c.0, c.1, c.2 ∙ rw i)
 
   -- where the half-cycle before is in no event, none is going on
-  pub opens-out : (k : ℕ) → before (in_event s h kind) k ≡ false → opens s h kind k ≡ closed
+  pub opens-out : (k : ℕ) → before (in_event s h kind) k ≡ false → opens s h kind k ≡ None
   unfolding opens
   opens-out zero e = refl
   opens-out (suc k) e = opens-closed k e

@@ -1,13 +1,11 @@
 -- The machine of a kind, as the code runs it, over marks and levels; and what its event comes to. proofs/ ties it to the rules.
-use Rattle.std.specs.Prelude.{ℕ, zero, suc, ◌+◌, ◌-◌, ◌*◌, ◌≤◌, ◌<◌, ◌≡◌, Bool, true, false, ◌&&◌, ◌||◌, cond, List, ltb, eqb, ℤ}
+use Rattle.std.specs.Prelude.{ℕ, zero, suc, ◌+◌, ◌-◌, ◌*◌, ◌≤◌, ◌<◌, ◌≡◌, Bool, true, false, ◌&&◌, ◌||◌, cond, List, ltb, eqb, ℤ, Option, Some, None, is_some}
 use Rattle.rules.specs.Bounded.{before, bit}
-use Rattle.rules.specs.Halves.{of_channel, channels, known, half_at, full}
+use Rattle.rules.specs.Halves.{Half, of_channel, channels, known, half_at, full}
 use Rattle.rules.specs.Events.{in_event, starts, start_seen, least, greatest, level, worse, extreme_of, retained_of, shorts_of, three, six_sums, type_of}
 use Rattle.rules.specs.EventList.{kind_number, of_sag}
 use Rattle.rules.specs.declared.Settings.{Settings}
 use Rattle.rules.specs.declared.Sums.{Sums}
-use Rattle.rules.specs.declared.Half.{Half}
-use Rattle.rules.specs.declared.Half.TheVariants.{Unknown, Known}
 use Rattle.rules.specs.declared.Kind.{Kind}
 use Rattle.rules.specs.declared.Event.{Event}
 use Rattle.rules.specs.declared.Kind.TheVariants.{Sag, Interruption, Swell}
@@ -15,6 +13,7 @@ use Rattle.kinds.specs.declared.Marks.{Marks}
 use Rattle.kinds.specs.declared.Thresholds.{Thresholds}
 use Rattle.kinds.specs.declared.Level.{Level}
 use Rattle.kinds.specs.declared.Open.{Open}
+use Rattle.kinds.specs.declared.Inside.{Inside}
 
 -- p percent in the unit of 10,000 x S
 abbrev pub mark_of : Settings → ℕ → ℕ
@@ -42,14 +41,10 @@ Marked m = m.sag.from ≤ 10000 * m.full
 abbrev pub short_by : ℕ → ℕ → ℕ → ℕ
 short_by full from S = cond (ltb (10000 * S) from) (full - S) 0
 
-abbrev pub nothing : Sums
-nothing = record { a = 0; b = 0; c = 0 }
-
-abbrev pub level_from : ℕ → ℕ → Half → Level
-level_from full from Unknown = record { known = false; least = 0; greatest = 0; low = 0; high = 0; short = nothing }
-level_from full from (Known v) =
+-- what the kinds ask of a known half-cycle
+abbrev pub level_sums : ℕ → ℕ → Sums → Level
+level_sums full from v =
     record {
-      known = true;
       least = least v;
       greatest = greatest v;
       low = 10000 * least v;
@@ -57,33 +52,61 @@ level_from full from (Known v) =
       short = record { a = short_by full from v.a; b = short_by full from v.b; c = short_by full from v.c };
     }
 
-unfoldable pub level_of : Settings → Half → Level
+-- an unknown one has no level
+abbrev pub level_from : ℕ → ℕ → Half → Option Level
+level_from full from None = None
+level_from full from (Some v) = Some (level_sums full from v)
+
+unfoldable pub level_of : Settings → Half → Option Level
 level_of s v = level_from (full s) (mark_of s s.sag) v
 
 -- sums of an accepted recording are at most 512 x 10,000,000,000
 abbrev pub Few : Half → Type 0
-Few Unknown = Unit {0}
-Few (Known v) = (v.a ≤ 5120000000000) × (v.b ≤ 5120000000000) × (v.c ≤ 5120000000000)
+Few None = Unit {0}
+Few (Some v) = (v.a ≤ 5120000000000) × (v.b ≤ 5120000000000) × (v.c ≤ 5120000000000)
 
 -- shortfalls that can be added
 abbrev pub Light : Sums → Type 0
 Light v = (v.a ≤ 1000000000000000000) × (v.b ≤ 1000000000000000000) × (v.c ≤ 1000000000000000000)
 
-unfoldable pub goes_by : Kind → Marks → Bool → Level → Bool
-goes_by Sag m inside l = l.known && (ltb l.low m.from || (inside && ltb l.low m.to))
-goes_by Interruption m inside l = l.known && (ltb l.high m.from || (inside && ltb l.high m.to))
-goes_by Swell m inside l = l.known && (ltb m.from l.high || (inside && ltb m.to l.high))
+abbrev pub goes_level : Kind → Marks → Bool → Level → Bool
+goes_level Sag m inside l = ltb l.low m.from || (inside && ltb l.low m.to)
+goes_level Interruption m inside l = ltb l.high m.from || (inside && ltb l.high m.to)
+goes_level Swell m inside l = ltb m.from l.high || (inside && ltb m.to l.high)
 
-abbrev pub closed : Open
-closed =
+-- an unknown half-cycle is in no event
+unfoldable pub goes_by : Kind → Marks → Bool → Option Level → Bool
+goes_by kind m inside None = false
+goes_by kind m inside (Some l) = goes_level kind m inside l
+
+-- ---- the kinds that a half-cycle is in an event of
+
+-- in no event
+abbrev pub outside : Inside
+outside = record { sag = false; interruption = false; swell = false }
+
+-- the kinds that half-cycle k - 1 is in an event of
+unfoldable pub inside_at : Settings → (ℕ → Half) → ℕ → Inside
+inside_at s h k =
     record {
-      inside = false;
-      start = 0;
-      seen = false;
-      extreme = 0;
-      at = 0;
-      short = nothing;
+      sag = before (in_event s h Sag) k;
+      interruption = before (in_event s h Interruption) k;
+      swell = before (in_event s h Swell) k;
     }
+
+-- and after one more half-cycle
+unfoldable pub followed_by : Thresholds → Inside → Option Level → Inside
+followed_by m was l =
+    record {
+      sag = goes_by Sag m.sag was.sag l;
+      interruption = goes_by Interruption m.interruption was.interruption l;
+      swell = goes_by Swell m.swell was.swell l;
+    }
+
+abbrev pub in_some : Inside → Bool
+in_some i = i.sag || i.interruption || i.swell
+
+-- ---- the event that is going on
 
 -- the level that counts for the extreme
 abbrev pub peak_of : Kind → Level → ℕ
@@ -93,7 +116,7 @@ peak_of Swell l = l.greatest
 
 abbrev pub launched : Kind → Bool → ℕ → Level → Open
 launched kind seen k l =
-    record { inside = true; start = k; seen = seen; extreme = peak_of kind l; at = k; short = l.short }
+    record { start = k; seen = seen; extreme = peak_of kind l; at = k; short = l.short }
 
 abbrev pub add_sums : Sums → Sums → Sums
 add_sums x y = record { a = x.a + y.a; b = x.b + y.b; c = x.c + y.c }
@@ -101,7 +124,6 @@ add_sums x y = record { a = x.a + y.a; b = x.b + y.b; c = x.c + y.c }
 abbrev pub lasting : Kind → ℕ → Open → Level → Open
 lasting kind k o l =
     record {
-      inside = true;
       start = o.start;
       seen = o.seen;
       extreme = worse kind o.extreme (peak_of kind l);
@@ -109,14 +131,19 @@ lasting kind k o l =
       short = add_sums o.short l.short;
     }
 
--- what half-cycle k makes of the event that is going on; `seen` says whether the half-cycle before it is known
-unfoldable pub step_by : Kind → Marks → Bool → ℕ → Open → Level → Open
-step_by kind m seen k o l =
-    cond (goes_by kind m o.inside l) (cond o.inside (lasting kind k o l) (launched kind seen k l)) closed
+-- the event that goes on at k, one that went on before or a new one
+abbrev pub carried : Kind → Bool → ℕ → Option Open → Level → Open
+carried kind seen k None l = launched kind seen k l
+carried kind seen k (Some o) l = lasting kind k o l
+
+-- what half-cycle k makes of the event that is going on, if one is; `seen` says whether the half-cycle before it is known
+unfoldable pub step_by : Kind → Marks → Bool → ℕ → Option Open → Option Level → Option Open
+step_by kind m seen k o None = None
+step_by kind m seen k o (Some l) = cond (goes_by kind m (is_some o) (Some l)) (Some (carried kind seen k o l)) None
 
 -- the state before half-cycle k
-unfoldable pub opens : Settings → (ℕ → Half) → Kind → ℕ → Open
-opens s h kind zero = closed
+unfoldable pub opens : Settings → (ℕ → Half) → Kind → ℕ → Option Open
+opens s h kind zero = None
 opens s h kind (suc k) =
     step_by kind (marks_of s kind) (before (λ j. known (h j)) k) k (opens s h kind k) (level_of s (h k))
 

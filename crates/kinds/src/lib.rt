@@ -1,13 +1,13 @@
 // One machine for the three kinds: what a half-cycle does to the event of a kind that is going on.
 #![tactic(auto)]
 
-ghost use Rattle.std.specs.Prelude.{◌≡◌, true, cond, ◌+◌, ◌*◌, ◌≤◌};
+ghost use Rattle.std.specs.Prelude.{◌≡◌, true, IfSome, ◌+◌, ◌*◌, ◌≤◌};
 ghost use Rattle.rules.specs.Recorder.{settings_good};
 ghost use Rattle.rules.specs.Halves.{full as full_of};
 ghost use Rattle.rules.specs.Events.{worse};
-ghost use Rattle.kinds.specs.Machine.{marks_of, thresholds_of, level_from, short_by, peak_of, goes_by, launched, lasting, step_by, closed, Few, Light};
+ghost use Rattle.kinds.specs.Machine.{marks_of, thresholds_of, level_from, short_by, peak_of, goes_by, outside, followed_by, in_some, launched, lasting, step_by, Few, Light};
 
-use numbers::{max, min};
+use numbers::{add_sums, greatest, least};
 use rules::{Half, Kind, Settings, Sums};
 
 // The two marks of a kind, in the unit of 10,000 x S: an event begins past `from`, and ends back at `to`.
@@ -26,11 +26,10 @@ pub struct Thresholds {
     pub swell: Marks,
 }
 
-// What the kinds ask of a half-cycle, worked out once for all three: the least and the greatest S, `low` and `high` for them in
+// What the kinds ask of a known half-cycle, worked out once for all three: the least and the greatest S, `low` and `high` for them in
 // the unit of the marks, and the shortfall of each channel.
 #[derive(Clone, Copy)]
 pub struct Level {
-    pub known: bool,
     pub least: u64,
     pub greatest: u64,
     pub low: u64,
@@ -39,10 +38,9 @@ pub struct Level {
 }
 
 // The event of a kind that is going on: where it started and whether that was seen, its extreme so far, the earliest half-cycle
-// of that, and the shortfall of each channel. All zero where none is going on.
+// of that, and the shortfall of each channel.
 #[derive(Clone, Copy)]
 pub struct Open {
-    pub inside: bool,
     pub start: u64,
     pub seen: bool,
     pub extreme: u64,
@@ -50,16 +48,56 @@ pub struct Open {
     pub short: Sums,
 }
 
-// Whether the half-cycle is in an event of the kind, where `inside` says it of the one before.
-pub fn goes_on(kind: Kind, m: Marks, inside: bool, l: Level) -> bool
-    ensures { result ≡ goes_by kind m inside l }
+// Whether the half-cycle is in an event of the kind, where `inside` says it of the one before. An unknown one is in none.
+pub fn goes_on(kind: Kind, m: Marks, inside: bool, level: Option<Level>) -> bool
+    ensures { result ≡ goes_by kind m inside level }
 {
-    let low = l.low;
-    let high = l.high;
+    let Some(l) = level else {
+        return false;
+    };
     match kind {
-        Kind::Sag => l.known & ((low < m.from) | (inside & (low < m.to))),
-        Kind::Interruption => l.known & ((high < m.from) | (inside & (high < m.to))),
-        Kind::Swell => l.known & ((m.from < high) | (inside & (m.to < high))),
+        Kind::Sag => (l.low < m.from) | (inside & (l.low < m.to)),
+        Kind::Interruption => (l.high < m.from) | (inside & (l.high < m.to)),
+        Kind::Swell => (m.from < l.high) | (inside & (m.to < l.high)),
+    }
+}
+
+// The kinds that a half-cycle is in an event of.
+#[derive(Clone, Copy)]
+pub struct Inside {
+    pub sag: bool,
+    pub interruption: bool,
+    pub swell: bool,
+}
+
+impl Inside {
+    // Before half-cycle 0 there is no event.
+    pub fn none() -> Inside
+        ensures { result ≡ outside }
+    {
+        Inside {
+            sag: false,
+            interruption: false,
+            swell: false,
+        }
+    }
+
+    // What the next half-cycle makes of them.
+    pub fn next(self, m: Thresholds, l: Option<Level>) -> Inside
+        ensures { result ≡ followed_by m self l }
+    {
+        Inside {
+            sag: goes_on(Kind::Sag, m.sag, self.sag, l),
+            interruption: goes_on(Kind::Interruption, m.interruption, self.interruption, l),
+            swell: goes_on(Kind::Swell, m.swell, self.swell, l),
+        }
+    }
+
+    // Whether there is one.
+    pub fn any(self) -> bool
+        ensures { result ≡ in_some self }
+    {
+        self.sag | self.interruption | self.swell
     }
 }
 
@@ -117,25 +155,15 @@ fn short(full: u64, from: u64, sum: u64) -> u64
     0
 }
 
-// What the kinds ask of a half-cycle; `from` is the mark at which a sag begins.
-pub fn level_at(full: u64, from: u64, half: Half) -> Level
+// What the kinds ask of a half-cycle, if it is known; `from` is the mark at which a sag begins.
+pub fn level_at(full: u64, from: u64, half: Half) -> Option<Level>
     requires { (from ≤ 10000 * full) × Few half }
     ensures { result ≡ level_from full from half }
 {
-    let Half::Known(v) = half else {
-        return Level {
-            known: false,
-            least: 0,
-            greatest: 0,
-            low: 0,
-            high: 0,
-            short: Sums { a: 0, b: 0, c: 0 },
-        };
-    };
-    let least = min(min(v.a, v.b), v.c);
-    let greatest = max(max(v.a, v.b), v.c);
-    Level {
-        known: true,
+    let v = half?;
+    let least = least(v);
+    let greatest = greatest(v);
+    Some(Level {
         least,
         greatest,
         low: 10000 * least,
@@ -145,7 +173,7 @@ pub fn level_at(full: u64, from: u64, half: Half) -> Level
             b: short(full, from, v.b),
             c: short(full, from, v.c),
         },
-    }
+    })
 }
 
 // The level of the kind's extreme.
@@ -153,8 +181,7 @@ fn peak(kind: Kind, l: Level) -> u64
     ensures { result ≡ peak_of kind l }
 {
     match kind {
-        Kind::Sag => l.least,
-        Kind::Interruption => l.least,
+        Kind::Sag | Kind::Interruption => l.least,
         Kind::Swell => l.greatest,
     }
 }
@@ -164,29 +191,8 @@ fn worse_of(kind: Kind, x: u64, y: u64) -> u64
     ensures { result ≡ worse kind x y }
 {
     match kind {
-        Kind::Sag => min(x, y),
-        Kind::Interruption => min(x, y),
-        Kind::Swell => max(x, y),
-    }
-}
-
-fn pick(first: bool, x: u64, y: u64) -> u64
-    ensures { result ≡ cond first x y }
-{
-    if first { x } else { y }
-}
-
-// No event is going on.
-pub fn none() -> Open
-    ensures { result ≡ closed }
-{
-    Open {
-        inside: false,
-        start: 0,
-        seen: false,
-        extreme: 0,
-        at: 0,
-        short: Sums { a: 0, b: 0, c: 0 },
+        Kind::Sag | Kind::Interruption => x.min(y),
+        Kind::Swell => x.max(y),
     }
 }
 
@@ -194,14 +200,12 @@ pub fn none() -> Open
 fn launch(kind: Kind, seen: bool, k: u64, l: Level) -> Open
     ensures { result ≡ launched kind seen k l }
 {
-    let short = l.short;
     Open {
-        inside: true,
         start: k,
         seen,
         extreme: peak(kind, l),
         at: k,
-        short,
+        short: l.short,
     }
 }
 
@@ -210,34 +214,33 @@ fn last(kind: Kind, k: u64, o: Open, l: Level) -> Open
     requires { Light o.short × Light l.short }
     ensures { result ≡ lasting kind k o l }
 {
-    let was = o.short;
-    let more = l.short;
     let extreme = worse_of(kind, o.extreme, peak(kind, l));
-    let at = pick(extreme == o.extreme, o.at, k);
     Open {
-        inside: true,
-        start: o.start,
-        seen: o.seen,
         extreme,
-        at,
-        short: Sums {
-            a: was.a + more.a,
-            b: was.b + more.b,
-            c: was.c + more.c,
-        },
+        at: if extreme == o.extreme { o.at } else { k },
+        short: add_sums(o.short, l.short),
+        ..o
     }
 }
 
-// What half-cycle k makes of the event that is going on; `seen` says whether the half-cycle before it is known.
-pub fn step(kind: Kind, m: Marks, seen: bool, k: u64, o: Open, l: Level) -> Open
-    requires { Light o.short × Light l.short }
-    ensures { result ≡ step_by kind m seen k o l }
+// What half-cycle k makes of the event that is going on, if one is; `seen` says whether the half-cycle before it is known.
+pub fn step(
+    kind: Kind,
+    m: Marks,
+    seen: bool,
+    k: u64,
+    was: Option<Open>,
+    level: Option<Level>,
+) -> Option<Open>
+    requires { IfSome was (λ o. Light o.short) × IfSome level (λ l. Light l.short) }
+    ensures { result ≡ step_by kind m seen k was level }
 {
-    if !goes_on(kind, m, o.inside, l) {
-        return none();
+    if !goes_on(kind, m, was.is_some(), level) {
+        return None;
     }
-    if o.inside {
-        return last(kind, k, o, l);
-    }
-    launch(kind, seen, k, l)
+    let l = level?;
+    Some(match was {
+        Some(o) => last(kind, k, o, l),
+        None => launch(kind, seen, k, l),
+    })
 }

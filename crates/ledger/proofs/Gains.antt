@@ -1,4 +1,5 @@
 -- The survey after the last half-cycle is the table of the recording: cells, bounds, and what all landings make up. Assumes nothing.
+use Rattle.std.specs.Prelude.{Option, Some, None}
 use Prim.Native.Nat.{ℕ, zero, suc, ◌+◌, ◌-◌, ◌*◌, ◌≤◌, ◌<◌}
 use mathlib.Core.Path.{◌≡◌, refl, sym, ap, subst, ◌∙◌}
 use mathlib.Core.Bool.{Bool, true, false, not, ◌&&◌, cond}
@@ -12,11 +13,11 @@ use lib.IntN.{ℤ}
 use lib.ListN.{length, get_or, set as store, replicate, length-set, get_or-replicate, get_or-eq_default}
 use lib.Seq.{ext_get_or, get_or-set_same, get_or-set_other}
 use Rattle.rules.specs.Bounded.{before, bit, count, sum}
-use Rattle.rules.specs.Halves.{of_channel, channels, known, half_at, halves_of, full}
+use Rattle.rules.specs.Halves.{Half, of_channel, channels, known, half_at, halves_of, full}
 use Rattle.rules.specs.Events.{in_event, starts, three}
 use Rattle.rules.specs.EventList.{event_from}
 use Rattle.rules.specs.Borders.{Borders, known_set, borders_of, cell_at}
-use Rattle.rules.specs.Site.{cells, is_placed, is_unplaced, sag_cell, sag_sum, sag_short, cells_from}
+use Rattle.rules.specs.Site.{cells, is_placed, is_unplaced, sag_cell, sag_sum, cells_from}
 use Rattle.rules.specs.Demands.{Good, AcceptedRecording}
 use Rattle.rules.proofs.Booleans.{cases, bit_le}
 use Rattle.rules.proofs.Bounded.{sum_same}
@@ -27,15 +28,13 @@ use Rattle.rules.proofs.Ranges.{full-high}
 use Rattle.rules.proofs.Shortfall.{parts_agree, total_made_up}
 use Rattle.rules.proofs.DemandThree.{cells-length, cells_at_lem, sag_short-high}
 use Rattle.rules.specs.declared.Settings.{Settings}
-use Rattle.rules.specs.declared.Half.{Half}
-use Rattle.rules.specs.declared.Half.TheVariants.{Unknown}
 use Rattle.rules.specs.declared.Kind.{Kind}
 use Rattle.rules.specs.declared.Kind.TheVariants.{Sag}
 use Rattle.kinds.specs.declared.Open.{Open}
 use Rattle.kinds.specs.Machine.{opens, Light}
-use Rattle.ledger.specs.Entries.{cells_by}
-use Rattle.ledger.specs.State.{landed, seen_both, part_from, landed_at, cells_at}
-use Rattle.ledger.proofs.Surveys.{bit_and, lands, landing, lands_at, seen_is, landed-starts}
+use Rattle.ledger.specs.Entries.{placed_by, cells_by}
+use Rattle.ledger.specs.State.{start_of, landed, seen_both, part_from, landed_at, cells_at}
+use Rattle.ledger.proofs.Surveys.{bit_and, at_end, landed-starts, ended_at, landed_step, landing, lands_at, seen_is}
 
 -- ---- cells
 
@@ -75,21 +74,13 @@ cells-set g cs c l =
         get_or-set_other (cells_from g cs 0) c i (get_or (cells_from g cs 0) c 0 + 1) 0 q ∙ omega (arith, at, at', ap bit r))
         (cases (eqb c i))
 
-module _ (s : Settings) (h : ℕ → Half) (n : ℕ) (past : (k : ℕ) → n ≤ k → h k ≡ Unknown) where
+module _ (s : Settings) (h : ℕ → Half) (n : ℕ) (past : (k : ℕ) → n ≤ k → h k ≡ None) where
   abbrev placed : Borders → ℕ → ℕ → ℕ
   placed b i a = bit (seen_both s h n a && eqb (sag_cell s b h n a) i)
-
-  cell_is : (b : Borders) (k : ℕ) → k ≤ n → lands s h n past Sag k ≡ true
-      → cell_at s b (opens s h Sag k).extreme (k - (opens s h Sag k).start) ≡ sag_cell s b h n (opens s h Sag k).start
-  unfolding sag_cell
-  cell_is b k high y = rw (lands_at s h n past Sag k high y, (landing s h n past Sag k high y).extreme)
 
   module _ (set : ℕ) (set_known : known_set set ≡ true) (k : ℕ) (high : k ≤ n) where
     abbrev b : Borders
     b = borders_of s set
-
-    abbrev o : Open
-    o = opens s h Sag k
 
     abbrev here : ℕ → ℕ
     here i = landed s h Sag (placed b i) k
@@ -97,43 +88,48 @@ module _ (s : Settings) (h : ℕ → Half) (n : ℕ) (past : (k : ℕ) → n ≤
     abbrev all-cells : (ℕ → ℕ) → List ℕ
     all-cells g = cells_from g (replicate cells 0) 0
 
-    abbrev Next : Type 0
-    Next = cells_by s set (lands s h n past Sag k) o k (known (h k)) (all-cells here) ≡ all-cells (λ i. landed s h Sag (placed b i) (suc k))
+    abbrev Next : Option Open → Type 0
+    Next e = cells_by s set e k (known (h k)) (all-cells here) ≡ all-cells (λ i. landed s h Sag (placed b i) (suc k))
 
-    one_placed : lands s h n past Sag k ≡ true → seen_both s h n o.start ≡ true → Next
-    unfolding landed
-    one_placed y both-seen =
-        let c = sag_cell s b h n o.start in
-        let left : cells_by s set (lands s h n past Sag k) o k (known (h k)) (all-cells here) ≡ store (all-cells here) c (get_or (all-cells here) c 0 + 1) =
-        rw (y, seen_is s h n past k high y, both-seen, cell_is b k high y) in
-        left
-        ∙ cells-set here (replicate cells 0) c (omega (arith, sag_cell-high s b h n o.start, set-cells s set set_known))
-        ∙ cells_same (λ i. here i + bit (eqb c i)) (λ i. landed s h Sag (placed b i) (suc k)) (λ i. rw (y, both-seen)) (replicate cells 0) 0
+    next : (e : Option Open) → ended_at s h Sag k ≡ e → (i : ℕ) → landed s h Sag (placed b i) (suc k) ≡ here i + at_end (placed b i) e
+    next e f i = landed_step s h Sag (placed b i) k ∙ ap (λ (e : Option Open). here i + at_end (placed b i) e) f
 
-    none-placed : (lands s h n past Sag k && (o.seen && known (h k))) ≡ false → ((i : ℕ) → cond (lands s h n past Sag k) (placed b i o.start) 0 ≡ 0) → Next
-    unfolding landed
-    none-placed y f = rw y (cells_same here (λ i. landed s h Sag (placed b i) (suc k)) (λ i. rw (f i) (sym (add-zero (here i)))) (replicate cells 0) 0)
+    module _ (o : Open) (lands : ended_at s h Sag k ≡ Some o) where
+      cell_is : cell_at s b o.extreme (k - o.start) ≡ sag_cell s b h n o.start
+      unfolding sag_cell
+      cell_is = rw (lands_at s h n past Sag k high o lands, (landing s h n past Sag k high o lands).extreme)
 
-    by_landing : Next
-    by_landing =
-        ⊎_elim
-        (λ y. ⊎_elim
-        (one_placed y)
-        (λ e. none-placed (rw (y, seen_is s h n past k high y) e) (λ i. rw (y, e)))
-        (cases (seen_both s h n o.start)))
-        (λ y. none-placed (rw y) (λ i. rw y))
-        (cases (lands s h n past Sag k))
+      one_placed : seen_both s h n o.start ≡ true → Next (Some o)
+      one_placed both-seen =
+          let c = sag_cell s b h n o.start in
+          let left : placed_by s set o k (known (h k)) (all-cells here) ≡ store (all-cells here) c (get_or (all-cells here) c 0 + 1) =
+          rw (seen_is s h n past k high o lands, both-seen, cell_is) in
+          left
+          ∙ cells-set here (replicate cells 0) c (omega (arith, sag_cell-high s b h n o.start, set-cells s set set_known))
+          ∙ cells_same (λ i. here i + bit (eqb c i)) (λ i. landed s h Sag (placed b i) (suc k)) (λ i. rw (next (Some o) lands i, both-seen)) (replicate cells 0) 0
 
-    pub cells-next : cells_by s set (lands s h n past Sag k) o k (known (h k)) (cells_at s b h n k) ≡ cells_at s b h n (suc k)
+      none-placed : (o.seen && known (h k)) ≡ false → seen_both s h n o.start ≡ false → Next (Some o)
+      none-placed y f =
+          rw y (cells_same here (λ i. landed s h Sag (placed b i) (suc k)) (λ i. rw (next (Some o) lands i, f) (sym (add-zero (here i)))) (replicate cells 0) 0)
+
+      by_both : Next (Some o)
+      by_both = ⊎_elim one_placed (λ e. none-placed (seen_is s h n past k high o lands ∙ e) e) (cases (seen_both s h n o.start))
+
+    by_landing : (e : Option Open) → ended_at s h Sag k ≡ e → Next e
+    by_landing None f =
+        cells_same here (λ i. landed s h Sag (placed b i) (suc k)) (λ i. rw (next None f i) (sym (add-zero (here i)))) (replicate cells 0) 0
+    by_landing (Some o) f = by_both o f
+
+    pub cells-next : cells_by s set (ended_at s h Sag k) k (known (h k)) (cells_at s b h n k) ≡ cells_at s b h n (suc k)
     unfolding cells_at
-    cells-next = by_landing
+    cells-next = by_landing (ended_at s h Sag k) refl
 
   -- ---- bounds
 
   landed_le : (kind : Kind) (g : ℕ → ℕ) → ((a : ℕ) → g a ≤ 1) → (k : ℕ) → landed s h kind g k ≤ k
   unfolding landed
   landed_le kind g e zero = omega arith
-  landed_le kind g e (suc k) = omega (arith, landed_le kind g e k, either (before (in_event s h kind) k && not (in_event s h kind k)) (e (opens s h kind k).start))
+  landed_le kind g e (suc k) = omega (arith, landed_le kind g e k, either (before (in_event s h kind) k && not (in_event s h kind k)) (e (start_of (opens s h kind k))))
     where
       either : (b : Bool) {x : ℕ} → x ≤ 1 → cond b x 0 ≤ 1
       either true l = l

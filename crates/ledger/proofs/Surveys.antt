@@ -1,32 +1,31 @@
 -- The survey of a recording says what the rules count: half-cycle by half-cycle, with what an event adds told when it ends.
 -- Assumes nothing.
+use Rattle.std.specs.Prelude.{Option, Some, None, is_some}
 use Prim.Native.Nat.{ℕ, zero, suc, ◌+◌, ◌≤◌}
-use mathlib.Core.Path.{◌≡◌, refl, ap, ◌∙◌}
-use mathlib.Core.Bool.{Bool, true, false, not, ◌&&◌, cond}
+use mathlib.Core.Path.{◌≡◌, refl, sym, ap, ◌∙◌}
+use mathlib.Core.Bool.{Bool, true, false, not, ◌&&◌, cond, false≢true}
 use mathlib.Core.Logic.{⊎_elim}
+use native.Mathlib.Nat.{add-zero}
 use native.Mathlib.Omega.{arith}
-use borrow.Author.Tests.{not-true}
 use Rattle.rules.specs.Bounded.{before, bit, sum}
-use Rattle.rules.specs.Halves.{of_channel, channels, known}
+use Rattle.rules.specs.Halves.{Half, of_channel, channels, known}
 use Rattle.rules.specs.Events.{in_event, starts, end_of}
 use Rattle.rules.specs.Site.{in_any, is_healthy, is_disturbed, is_unknown}
-use Rattle.rules.proofs.Booleans.{cases, both}
+use Rattle.rules.proofs.Booleans.{cases}
 use Rattle.rules.specs.declared.Settings.{Settings}
 use Rattle.rules.specs.declared.Sums.{Sums}
-use Rattle.rules.specs.declared.Half.{Half}
-use Rattle.rules.specs.declared.Half.TheVariants.{Unknown}
 use Rattle.rules.specs.declared.Kind.{Kind}
 use Rattle.rules.specs.declared.Kind.TheVariants.{Sag, Interruption, Swell}
 use Rattle.kinds.specs.declared.Open.{Open}
 use Rattle.ledger.specs.declared.Track.{Track}
 use Rattle.ledger.specs.declared.Landed.{Landed}
 use Rattle.kinds.specs.Machine.{thresholds_of, level_of, opens, Going}
-use Rattle.ledger.specs.Entries.{tracked_by, classed_by, started_by, landed_by}
-use Rattle.ledger.specs.State.{landed, track_at, classes_at, starts_at, seen_both, part_from, landed_at}
-use Rattle.kinds.proofs.Machine.{goes_here, level-known, inside_is, opens_lasts, opens_launches}
+use Rattle.ledger.specs.Entries.{tracked_by, classed_by, started_by, ended_by, landed_by}
+use Rattle.ledger.specs.State.{start_of, landed, track_at, classes_at, starts_at, seen_both, part_from, landed_at}
+use Rattle.kinds.proofs.Machine.{goes_here, level-known, inside_is, opens_lasts, opens_launches, opens-out}
 use Rattle.kinds.proofs.Going.{open_is_going, ends_here}
 
-same_track : {a b c d i j : Bool} {o p : Open} → a ≡ b → o ≡ p → c ≡ d → i ≡ j
+same_track : {a b c d i j : Bool} {o p : Option Open} → a ≡ b → o ≡ p → c ≡ d → i ≡ j
     → ◌≡◌ {A = Track} (record { known = a; sag = o; interruption = c; swell = i }) (record { known = b; sag = p; interruption = d; swell = j })
 same_track x y z u = rw (x, y, z, u)
 
@@ -34,9 +33,21 @@ pub bit_and : (b q : Bool) → bit (b && q) ≡ cond b (bit q) 0
 bit_and true q = refl
 bit_and false q = refl
 
-where_true : (b : Bool) (x y : ℕ) → (b ≡ true → x ≡ y) → cond b x 0 ≡ cond b y 0
-where_true true x y f = f refl
-where_true false x y f = refl
+-- what a sag's end adds to a sum of g
+abbrev pub at_end : (ℕ → ℕ) → Option Open → ℕ
+at_end g None = 0
+at_end g (Some o) = g o.start
+
+ends_as : (g : ℕ → ℕ) (was is : Option Open) → cond (is_some was && not (is_some is)) (g (start_of was)) 0 ≡ at_end g (ended_by was is)
+ends_as g None None = refl
+ends_as g None (Some p) = refl
+ends_as g (Some o) None = refl
+ends_as g (Some o) (Some p) = refl
+
+-- the one that is ended went on, and none goes on after
+pub ended_one : (was is : Option Open) (o : Open) → ended_by was is ≡ Some o → (was ≡ Some o) × (is ≡ None)
+ended_one was None o e = (e, refl)
+ended_one was (Some p) o e = let z : ◌≡◌ {A = ℕ} 0 1 = cc in absurd (omega arith)
 
 same_landed : {a b : ℕ} {e f : Sums} → a ≡ b → e ≡ f → ◌≡◌ {A = Landed} (record { unplaced = a; parts = e }) (record { unplaced = b; parts = f })
 same_landed x y = rw (x, y)
@@ -65,15 +76,26 @@ module _ (s : Settings) (h : ℕ → Half) where
   -- ---- what is told when an event ends
 
   module _ (kind : Kind) (g : ℕ → ℕ) (k : ℕ)
-      (so_far : landed s h kind g k + cond (before (in_event s h kind) k) (g (opens s h kind k).start) 0 ≡ sum (λ a. cond (starts s h kind a) (g a) 0) k) where
+      (so_far : landed s h kind g k + cond (before (in_event s h kind) k) (g (start_of (opens s h kind k))) 0 ≡ sum (λ a. cond (starts s h kind a) (g a) 0) k) where
     abbrev Next : Type 0
     Next =
-        landed s h kind g (suc k) + cond (in_event s h kind k) (g (opens s h kind (suc k)).start) 0
+        landed s h kind g (suc k) + cond (in_event s h kind k) (g (start_of (opens s h kind (suc k)))) 0
         ≡ sum (λ a. cond (starts s h kind a) (g a) 0) (suc k)
+
+    -- an event that lasts keeps its start, and one that begins has it at k
+    start_lasts : before (in_event s h kind) k ≡ true → in_event s h kind k ≡ true → start_of (opens s h kind (suc k)) ≡ start_of (opens s h kind k)
+    start_lasts w i = by (opens s h kind k) refl (inside_is s h kind k ∙ w)
+      where
+        by : (was : Option Open) → opens s h kind k ≡ was → is_some was ≡ true → start_of (opens s h kind (suc k)) ≡ start_of was
+        by None e y = absurd (false≢true y)
+        by (Some o) e y = ap start_of (opens_lasts s h kind k o i e).2
+
+    start_launches : before (in_event s h kind) k ≡ false → in_event s h kind k ≡ true → start_of (opens s h kind (suc k)) ≡ k
+    start_launches w i = ap start_of (opens_launches s h kind k i (opens-out s h kind k w)).2
 
     lasts : before (in_event s h kind) k ≡ true → in_event s h kind k ≡ true → Next
     unfolding landed starts
-    lasts w i = rw (w, i, opens_lasts s h kind k i (inside_is s h kind k ∙ w)) (omega (arith, rw w at so_far))
+    lasts w i = rw (w, i, start_lasts w i) (omega (arith, rw w at so_far))
 
     ends : before (in_event s h kind) k ≡ true → in_event s h kind k ≡ false → Next
     unfolding landed starts
@@ -81,7 +103,7 @@ module _ (s : Settings) (h : ℕ → Half) where
 
     begins : before (in_event s h kind) k ≡ false → in_event s h kind k ≡ true → Next
     unfolding landed starts
-    begins w i = rw (w, i, opens_launches s h kind k i (inside_is s h kind k ∙ w)) (omega (arith, rw w at so_far))
+    begins w i = rw (w, i, start_launches w i) (omega (arith, rw w at so_far))
 
     rests : before (in_event s h kind) k ≡ false → in_event s h kind k ≡ false → Next
     unfolding landed starts
@@ -96,40 +118,55 @@ module _ (s : Settings) (h : ℕ → Half) where
 
   -- with the event that is going on, told by where it started, all that started
   pub landed-starts : (kind : Kind) (g : ℕ → ℕ) (k : ℕ)
-      → landed s h kind g k + cond (before (in_event s h kind) k) (g (opens s h kind k).start) 0 ≡ sum (λ a. cond (starts s h kind a) (g a) 0) k
+      → landed s h kind g k + cond (before (in_event s h kind) k) (g (start_of (opens s h kind k))) 0 ≡ sum (λ a. cond (starts s h kind a) (g a) 0) k
   unfolding landed starts
   landed-starts kind g zero = refl
   landed-starts kind g (suc k) = landed-next kind g k (landed-starts kind g k)
 
   -- ---- landings
 
-  module _ (n : ℕ) (past : (k : ℕ) → n ≤ k → h k ≡ Unknown) where
-    -- an event of the kind lands at half-cycle k
-    abbrev pub lands : Kind → ℕ → Bool
-    lands kind k = before (in_event s h kind) k && not (in_event s h kind k)
+  -- the event of the kind that half-cycle k ends
+  abbrev pub ended_at : Kind → ℕ → Option Open
+  ended_at kind k = ended_by (opens s h kind k) (opens s h kind (suc k))
 
-    module _ (kind : Kind) (k : ℕ) (high : k ≤ n) (yes-lands : lands kind k ≡ true) where
-      pub landing : Going s h kind k (opens s h kind k)
-      landing = open_is_going s h kind k (inside_is s h kind k ∙ (both (before (in_event s h kind) k) (not (in_event s h kind k)) yes-lands).0)
+  pub landed_step : (kind : Kind) (g : ℕ → ℕ) (k : ℕ) → landed s h kind g (suc k) ≡ landed s h kind g k + at_end g (ended_at kind k)
+  unfolding landed
+  landed_step kind g k =
+      let w = sym (inside_is s h kind k) in
+      let i : in_event s h kind k ≡ is_some (opens s h kind (suc k)) = sym (inside_is s h kind (suc k)) in
+      rw (w, i) (ap (λ (x : ℕ). landed s h kind g k + x) (ends_as g (opens s h kind k) (opens s h kind (suc k))))
 
-      pub lands_at : end_of s h n kind (opens s h kind k).start ≡ k
+  module _ (n : ℕ) (past : (k : ℕ) → n ≤ k → h k ≡ None) where
+    module _ (kind : Kind) (k : ℕ) (high : k ≤ n) (o : Open) (lands : ended_at kind k ≡ Some o) where
+      pub landing : Going s h kind k o
+      landing = open_is_going s h kind k o (ended_one (opens s h kind k) (opens s h kind (suc k)) o lands).0
+
+      pub lands_at : end_of s h n kind o.start ≡ k
       lands_at =
-          ends_here s h kind n k (opens s h kind k) landing high
-          (not-true (in_event s h kind k) (both (before (in_event s h kind) k) (not (in_event s h kind k)) yes-lands).1)
+          ends_here s h kind n k o landing high
+          (sym (inside_is s h kind (suc k)) ∙ ap is_some (ended_one (opens s h kind k) (opens s h kind (suc k)) o lands).1)
 
-    pub seen_is : (k : ℕ) → k ≤ n → lands Sag k ≡ true → ((opens s h Sag k).seen && known (h k)) ≡ seen_both s h n (opens s h Sag k).start
-    seen_is k high y = rw ((landing Sag k high y).seen, lands_at Sag k high y)
+    module _ (k : ℕ) (high : k ≤ n) (o : Open) (lands : ended_at Sag k ≡ Some o) where
+      pub seen_is : (o.seen && known (h k)) ≡ seen_both s h n o.start
+      seen_is = rw ((landing Sag k high o lands).seen, lands_at Sag k high o lands)
 
-    short_is : (c k : ℕ) → k ≤ n → lands Sag k ≡ true → of_channel c (opens s h Sag k).short ≡ part_from s h n c (opens s h Sag k).start
-    short_is c k high y = rw ((landing Sag k high y).short, lands_at Sag k high y)
+      short_is : (c : ℕ) → of_channel c o.short ≡ part_from s h n c o.start
+      short_is c = rw ((landing Sag k high o lands).short, lands_at Sag k high o lands)
 
-    pub landed_at-next : (k : ℕ) → k ≤ n → landed_by (landed_at s h n k) (lands Sag k) (opens s h Sag k) (known (h k)) ≡ landed_at s h n (suc k)
-    unfolding landed_at landed
-    landed_at-next k high =
-        let o = opens s h Sag k in
-        same_landed
-        (ap (λ (x : ℕ). landed s h Sag (λ a. bit (not (seen_both s h n a))) k + x)
-        (bit_and (lands Sag k) (not (o.seen && known (h k)))
-        ∙ where_true (lands Sag k) _ _ (λ y. ap (λ (b : Bool). bit (not b)) (seen_is k high y))))
-        (same_channels (λ c. landed s h Sag (part_from s h n c) k + cond (lands Sag k) (of_channel c o.short) 0) (λ c. landed s h Sag (part_from s h n c) (suc k))
-        (λ c. ap (λ (x : ℕ). landed s h Sag (part_from s h n c) k + x) (where_true (lands Sag k) _ _ (λ y. short_is c k high y))))
+    pub landed_at-next : (k : ℕ) → k ≤ n → landed_by (landed_at s h n k) (ended_at Sag k) (known (h k)) ≡ landed_at s h n (suc k)
+    unfolding landed_at
+    landed_at-next k high = by (ended_at Sag k) refl
+      where
+        next : (g : ℕ → ℕ) (e : Option Open) → ended_at Sag k ≡ e → landed s h Sag g k + at_end g e ≡ landed s h Sag g (suc k)
+        next g e i = sym (landed_step Sag g k ∙ ap (λ (e : Option Open). landed s h Sag g k + at_end g e) i)
+
+        by : (e : Option Open) → ended_at Sag k ≡ e → landed_by (landed_at s h n k) e (known (h k)) ≡ landed_at s h n (suc k)
+        by None i =
+            same_landed (sym (add-zero _) ∙ next (λ a. bit (not (seen_both s h n a))) None i)
+            (same_channels (λ c. landed s h Sag (part_from s h n c) k) (λ c. landed s h Sag (part_from s h n c) (suc k))
+            (λ c. sym (add-zero _) ∙ next (part_from s h n c) None i))
+        by (Some o) i =
+            same_landed
+            (rw (seen_is k high o i) (next (λ a. bit (not (seen_both s h n a))) (Some o) i))
+            (same_channels (λ c. landed s h Sag (part_from s h n c) k + of_channel c o.short) (λ c. landed s h Sag (part_from s h n c) (suc k))
+            (λ c. rw (short_is k high o i c) (next (part_from s h n c) (Some o) i)))

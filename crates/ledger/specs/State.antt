@@ -1,27 +1,32 @@
 -- What the ledger holds before half-cycle k, told by the rules.
-use Rattle.std.specs.Prelude.{ℕ, zero, suc, ◌+◌, Bool, not, ◌&&◌, cond, List, replicate, eqb}
+use Rattle.std.specs.Prelude.{ℕ, zero, suc, ◌+◌, Bool, not, ◌&&◌, cond, List, replicate, eqb, Option, Some, None}
 use Rattle.rules.specs.Bounded.{before, bit, count}
-use Rattle.rules.specs.Halves.{of_channel, channels, known}
+use Rattle.rules.specs.Halves.{Half, of_channel, channels, known}
 use Rattle.rules.specs.Events.{in_event, starts, end_of, start_seen, end_seen, shorts_of}
 use Rattle.rules.specs.Borders.{Borders}
 use Rattle.rules.specs.Site.{cells, is_healthy, is_disturbed, is_unknown, sag_cell, cells_from}
 use Rattle.rules.specs.declared.Settings.{Settings}
-use Rattle.rules.specs.declared.Half.{Half}
 use Rattle.rules.specs.declared.Kind.{Kind}
 use Rattle.rules.specs.declared.Kind.TheVariants.{Sag, Interruption, Swell}
 use Rattle.kinds.specs.Machine.{opens}
+use Rattle.kinds.specs.declared.Open.{Open}
 use Rattle.ledger.specs.declared.Track.{Track}
 use Rattle.ledger.specs.declared.Classes.{Classes}
 use Rattle.ledger.specs.declared.Starts.{Starts}
 use Rattle.ledger.specs.declared.Landed.{Landed}
 use Rattle.ledger.specs.declared.Survey.{Survey}
 
+-- where the event that is going on started; 0 where none is
+abbrev pub start_of : Option Open → ℕ
+start_of None = 0
+start_of (Some o) = o.start
+
 -- the sum of g over the events of a kind that ended before half-cycle k
 unfoldable pub landed : Settings → (ℕ → Half) → Kind → (ℕ → ℕ) → ℕ → ℕ
 landed s h kind g zero = 0
 landed s h kind g (suc k) =
     landed s h kind g k
-    + cond (before (in_event s h kind) k && not (in_event s h kind k)) (g (opens s h kind k).start) 0
+    + cond (before (in_event s h kind) k && not (in_event s h kind k)) (g (start_of (opens s h kind k))) 0
 
 unfoldable pub track_at : Settings → (ℕ → Half) → ℕ → Track
 track_at s h k =

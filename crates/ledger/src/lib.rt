@@ -2,21 +2,21 @@
 // quiet stretch make of it.
 #![tactic(auto)]
 
-ghost use Rattle.std.specs.Prelude.{◌≡◌, ◌+◌, ◌≤◌};
+ghost use Rattle.std.specs.Prelude.{◌≡◌, IfSome, ◌+◌, ◌≤◌};
 ghost use Rattle.rules.specs.Bounded.{bit};
 ghost use Rattle.kinds.specs.Machine.{Light};
-ghost use Rattle.ledger.specs.Entries.{tracked_by, classed_by, started_by, parts_by, landed_by, cells_by, Placeable, Landable, Turnable, surveyed_by, cells_turned, going_on, passed_over, start_survey};
+ghost use Rattle.ledger.specs.Entries.{tracked_by, classed_by, started_by, ended_by, placed_by, landed_by, cells_by, Placeable, Landable, Turnable, surveyed_by, cells_turned, going_on, passed_over, start_survey};
 
 use borders::cell_at;
-use kinds::{Level, Open, Thresholds, goes_on, level_at, none, step};
+use kinds::{Level, Open, Thresholds, goes_on, level_at, step};
 use numbers::add_sums;
 use rules::{Half, Kind, Settings, Sums};
 
-// What goes on before a half-cycle: whether the one before is known, the sag, whether an interruption or a swell is.
+// What goes on before a half-cycle: whether the one before is known, the sag if one is, whether an interruption or a swell is.
 #[derive(Clone, Copy)]
 pub struct Track {
     pub known: bool,
-    pub sag: Open,
+    pub sag: Option<Open>,
     pub interruption: bool,
     pub swell: bool,
 }
@@ -58,26 +58,19 @@ fn bump(n: u64, yes: bool) -> u64
     requires { n ≤ 4000000 }
     ensures { result ≡ n + bit yes }
 {
-    if yes {
-        return n + 1;
-    }
-    n
+    n + u64::from(yes)
 }
 
 // What goes on after half-cycle k.
-fn follow(m: Thresholds, k: u64, t: Track, l: Level) -> Track
-    requires { Light t.sag.short × Light l.short }
-    ensures { result ≡ tracked_by m k t l }
+fn follow(m: Thresholds, k: u64, t: Track, level: Option<Level>) -> Track
+    requires { IfSome t.sag (λ o. Light o.short) × IfSome level (λ l. Light l.short) }
+    ensures { result ≡ tracked_by m k t level }
 {
-    let was = t.sag;
-    let sag = step(Kind::Sag, m.sag, t.known, k, was, l);
-    let interruption = goes_on(Kind::Interruption, m.interruption, t.interruption, l);
-    let swell = goes_on(Kind::Swell, m.swell, t.swell, l);
     Track {
-        known: l.known,
-        sag,
-        interruption,
-        swell,
+        known: level.is_some(),
+        sag: step(Kind::Sag, m.sag, t.known, k, t.sag, level),
+        interruption: goes_on(Kind::Interruption, m.interruption, t.interruption, level),
+        swell: goes_on(Kind::Swell, m.swell, t.swell, level),
     }
 }
 
@@ -98,35 +91,32 @@ fn count_starts(n: Starts, was: Track, is: Track) -> Starts
     requires { (n.sags ≤ 4000000) × (n.interruptions ≤ 4000000) × (n.swells ≤ 4000000) }
     ensures { result ≡ started_by n was is }
 {
-    let before = was.sag;
-    let sag = is.sag;
     Starts {
-        sags: bump(n.sags, sag.inside & !before.inside),
+        sags: bump(n.sags, is.sag.is_some() & was.sag.is_none()),
         interruptions: bump(n.interruptions, is.interruption & !was.interruption),
         swells: bump(n.swells, is.swell & !was.swell),
     }
 }
 
-// A sag with both ends seen that half-cycle `end` ends: its cell by the set of borders has one more.
-fn place(s: Settings, set: u64, ends: bool, o: Open, end: u64, known: bool, cells: &mut [u64; 40])
-    requires { Placeable s set ends o end cells.old }
-    ensures { cells.new ≡ cells_by s set ends o end known cells.old }
+// The sag that a half-cycle ends: the one that went on before it, where none goes on after it.
+fn ended(was: Option<Open>, is: Option<Open>) -> Option<Open>
+    ensures { result ≡ ended_by was is }
 {
-    if ends & (o.seen & known) {
-        let c = cell_at(s, set, o.extreme, end - o.start) as usize;
-        cells[c] = cells[c] + 1;
+    match is {
+        Some(_) => None,
+        None => was,
     }
 }
 
-// What a sag's end adds to the shortfalls of the channels.
-fn add_parts(n: Sums, ends: bool, short: Sums) -> Sums
-    requires { Light n × Light short }
-    ensures { result ≡ parts_by n ends short }
+// A sag that half-cycle `end` ends: with both ends seen, its cell by the set of borders has one more.
+fn place(s: Settings, set: u64, o: Open, end: u64, known: bool, cells: &mut [u64; 40])
+    requires { Placeable s set o end cells.old }
+    ensures { cells.new ≡ placed_by s set o end known cells.old }
 {
-    if ends {
-        return add_sums(n, short);
+    if o.seen & known {
+        let c = cell_at(s, set, o.extreme, end - o.start) as usize;
+        cells[c] += 1;
     }
-    n
 }
 
 // What the sag adds that half-cycle k, known or not, ends; nothing where it ends none.
@@ -134,20 +124,22 @@ pub fn land(
     s: Settings,
     set: u64,
     n: Landed,
-    ends: bool,
-    o: Open,
+    ended: Option<Open>,
     k: u64,
     known: bool,
     cells: &mut [u64; 40],
 ) -> Landed
-    requires { Landable s set n ends o k cells.old }
-    ensures value { result ≡ landed_by n ends o known }
-    ensures cells_after { cells.new ≡ cells_by s set ends o k known cells.old }
+    requires { IfSome ended (λ o. Landable s set n o k cells.old) }
+    ensures value { result ≡ landed_by n ended known }
+    ensures cells_after { cells.new ≡ cells_by s set ended k known cells.old }
 {
-    place(s, set, ends, o, k, known, cells);
+    let Some(o) = ended else {
+        return n;
+    };
+    place(s, set, o, k, known, cells);
     Landed {
-        unplaced: bump(n.unplaced, ends & !(o.seen & known)),
-        parts: add_parts(n.parts, ends, o.short),
+        unplaced: bump(n.unplaced, !(o.seen & known)),
+        parts: add_sums(n.parts, o.short),
     }
 }
 
@@ -165,22 +157,15 @@ pub fn survey_turn(
     ensures value { result ≡ surveyed_by m half p k }
     ensures cells_after { cells.new ≡ cells_turned s set m half p k cells.old }
 {
-    let marks = m.sag;
-    let l = level_at(m.full, marks.from, half);
+    let level = level_at(m.full, m.sag.from, half);
+    let known = level.is_some();
     let was = p.track;
-    let is = follow(m, k, was, l);
-    let open = was.sag;
-    let sag = is.sag;
-    let any = sag.inside | is.interruption | is.swell;
-    let classes = classify(p.classes, l.known, any);
-    let starts = count_starts(p.starts, was, is);
-    let ends = open.inside & !sag.inside;
-    let landed = land(s, set, p.landed, ends, open, k, l.known, cells);
+    let is = follow(m, k, was, level);
     Survey {
         track: is,
-        classes,
-        starts,
-        landed,
+        classes: classify(p.classes, known, is_open(is)),
+        starts: count_starts(p.starts, was, is),
+        landed: land(s, set, p.landed, ended(was.sag, is.sag), k, known, cells),
     }
 }
 
@@ -191,7 +176,7 @@ pub fn start_survey() -> Survey
     Survey {
         track: Track {
             known: false,
-            sag: none(),
+            sag: None,
             interruption: false,
             swell: false,
         },
@@ -216,8 +201,7 @@ pub fn start_survey() -> Survey
 pub fn is_open(t: Track) -> bool
     ensures { result ≡ going_on t }
 {
-    let sag = t.sag;
-    sag.inside | t.interruption | t.swell
+    t.sag.is_some() | t.interruption | t.swell
 }
 
 // The survey after so many half-cycles more at which nothing goes on: they are healthy, and the last of them is known.
@@ -225,24 +209,15 @@ pub fn pass_over(p: Survey, more: u64) -> Survey
     requires { (p.classes.healthy ≤ 4000000) × (more ≤ 4000000) }
     ensures { result ≡ passed_over p more }
 {
-    let t = p.track;
-    let sag = t.sag;
-    let c = p.classes;
-    let starts = p.starts;
-    let landed = p.landed;
     Survey {
         track: Track {
-            known: t.known | (0 < more),
-            sag,
-            interruption: t.interruption,
-            swell: t.swell,
+            known: p.track.known | (0 < more),
+            ..p.track
         },
         classes: Classes {
-            healthy: c.healthy + more,
-            disturbed: c.disturbed,
-            unknown: c.unknown,
+            healthy: p.classes.healthy + more,
+            ..p.classes
         },
-        starts,
-        landed,
+        ..p
     }
 }

@@ -17,7 +17,7 @@ use Rattle.rules.specs.declared.Settings.{Settings}
 use Rattle.rules.proofs.Choices.{lower}
 use Rattle.rules.proofs.Longest.{first_low, first_high, first_between, first_refused}
 use Rattle.rules.proofs.Runs.{first_go}
-use Rattle.kinds.specs.declared.Thresholds.{Thresholds}
+use Rattle.halves.specs.declared.Recording.{Recording}
 use Rattle.quiet.specs.Quiet.{Resting}
 use Rattle.list.specs.declared.Pass.{Pass}
 use Rattle.list.specs.Listing.{ReadyAll, turns, turns_out, rested, differs, Running, WritingOn, WrittenTo}
@@ -68,9 +68,18 @@ not_noted : (b : Bool) → differs b true ≡ true → b ≡ false
 not_noted true e = absurd (false≢true e)
 not_noted false e = refl
 
-module _ {s : Settings} {xs : List ℤ} {m : Thresholds} {halves : ℕ} {notes : List Bool} {g : ℕ} {p : Pass} {room : ℕ}
-    (v : WritingOn s xs m halves notes g p room) (groups : ℕ) (all : groups ≡ suc (halves / 4))
+module _ {r : Recording} {notes : List Bool} {g : ℕ} {p : Pass} {room : ℕ} (v : WritingOn r notes g p room)
+    (groups : ℕ) (all : groups ≡ suc (r.halves / 4))
     (from : ℕ) (from_is : from ≡ first_not (λ i. differs (get_or notes i false) true) g (groups - g)) where
+  abbrev s : Settings
+  s = r.settings
+
+  abbrev xs : List ℤ
+  xs = r.samples.now
+
+  abbrev halves : ℕ
+  halves = r.halves
+
   abbrev quiet : ℕ → Bool
   quiet i = differs (get_or notes i false) true
 
@@ -89,7 +98,7 @@ module _ {s : Settings} {xs : List ℤ} {m : Thresholds} {halves : ℕ} {notes :
       (lower (halves / 4) from)
     where
       last : get_or notes (halves / 4) false ≡ true
-      last = rw v.halves_are v.noted.last
+      last = rw r.counted v.noted.last
 
   is_noted : get_or notes from false ≡ true
   is_noted =
@@ -98,7 +107,7 @@ module _ {s : Settings} {xs : List ℤ} {m : Thresholds} {halves : ℕ} {notes :
 
   -- before it nothing goes on
   rests : (k : ℕ) → 4 * g ≤ k → k < 4 * from → Resting s (half_at s xs) k
-  rests k l u = v.noted.resting k (omega (arith, v.halves_are, from-high)) (not_between (k / 4) (omega arith) (omega arith))
+  rests k l u = v.noted.resting k (omega (arith, r.counted, from-high)) (not_between (k / 4) (omega arith) (omega arith))
 
   ready : (d : ℕ) → 4 * g + d < 4 * from → ReadyAll s xs (4 * g + d) (turns s xs (4 * g) d p) room
   ready d l = v.ready d (omega (arith, from-high))
@@ -147,13 +156,10 @@ module _ {s : Settings} {xs : List ℤ} {m : Thresholds} {halves : ℕ} {notes :
 
     -- the run of turns
     module _ (end : ℕ) (end_is : end ≡ min (4 * to) (halves + 1)) (calm : Pass) (e : calm ≡ rested p (ltb g from)) where
-      pub run_asks : Running s xs m halves (4 * from) end calm room
+      pub run_asks : Running r (4 * from) end calm room
       run_asks =
           record {
-            good-settings = v.good-settings;
             accepted = v.accepted;
-            thresholds = v.thresholds;
-            halves_are = v.halves_are;
             some = omega (arith, end_is, to_low, from-high);
             high = omega (arith, end_is);
             ready = λ d l. ready-join s xs (4 * g) (4 * from) (omega (arith, from_low)) p calm (calm_is calm e) halves room v.ready d (omega (arith, end_is));
@@ -162,12 +168,12 @@ module _ {s : Settings} {xs : List ℤ} {m : Thresholds} {halves : ℕ} {notes :
       pub written : (q : Pass) (out o : List ℕ) → q ≡ turns s xs (4 * from) (end - 4 * from) calm → o ≡ turns_out s xs (4 * from) (end - 4 * from) calm out
           → WrittenTo s xs g p out (record { pass = q; group = to }) o
       written q out o f i =
-          let start : end ≡ min (4 * to) (suc (halves_of s xs)) = omega (arith, end_is, v.halves_are) in
+          let start : end ≡ min (4 * to) (suc (halves_of s xs)) = omega (arith, end_is, r.counted) in
           let low : 4 * g ≤ 4 * from = omega (arith, from_low) in
           let high : 4 * from ≤ end = omega (arith, end_is, to_low, from-high) in
           record {
             later = omega (arith, from_low, to_low);
-            high = omega (arith, to_high, all, v.halves_are);
+            high = omega (arith, to_high, all, r.counted);
             pass = turns-join s xs (4 * g) (4 * from) low p calm (calm_is calm e) end high q f ∙ ap (λ (x : ℕ). turns s xs (4 * g) (x - 4 * g) p) start;
             run =
                 outs_join s xs (4 * g) (4 * from) low p calm (calm_is calm e) end high out o (still out) i

@@ -1,13 +1,14 @@
 -- Words stored in slots of a run: stores in different slots commute, and a slot behind what is written makes it longer. Assumes
 -- nothing.
+use Rattle.std.specs.Prelude.{Option, Some, None, IfSome}
 use Prim.Native.Nat.{ℕ, suc, ◌+◌, ◌*◌, ◌≤◌, ◌<◌}
 use mathlib.Core.Path.{◌≡◌, refl, sym, ap, ◌∙◌}
-use mathlib.Core.Bool.{Bool, true, false, cond}
 use mathlib.Core.Logic.{◌⊎◌, inl, inr, ⊎_elim}
 use mathlib.Core.List.{List, [], ◌∷◌, ◌++◌, append_assoc}
 use native.Mathlib.Omega.{arith}
 use Rattle.rules.proofs.Choices.{lower}
-use Rattle.list.specs.Listing.{over}
+use Rattle.rules.specs.Refusals.{over}
+use Rattle.list.specs.declared.Pending.{Pending}
 use lib.ListN.{length, drop, set, length-append, length-drop}
 use lib.Seq.{sets, sets-eq, set_comm, take-append_seam, drop-append-add, drop-drop}
 
@@ -31,26 +32,33 @@ sets_comm (u ∷ us) vs l i j a =
 
 -- ---- a slot that waits for its words
 
--- the run as it will be once slot a has its words, where it waits for them
-abbrev pub fill : Bool → ℕ → List ℕ → List ℕ → List ℕ
-fill waits a w o = cond waits (sets o (11 * a) w) o
+-- the run as it will be once a slot that waits has its words
+abbrev pub fill : (Pending → List ℕ) → Option Pending → List ℕ → List ℕ
+fill w None o = o
+fill w (Some p) o = sets o (11 * p.slot) (w p)
+
+-- two slots that wait are not the same
+abbrev pub Different : Option Pending → Option Pending → Type 0
+Different q r = IfSome q (λ a. IfSome r (λ b. a.slot ≡ b.slot → ⊥))
 
 -- two slots that are not the same lie apart
 slots_apart : (u v : List ℕ) (a b : ℕ) → length u ≡ 11 → length v ≡ 11 → (a ≡ b → ⊥) → Apart (11 * a) u (11 * b) v
 slots_apart u v a b l m n =
     ⊎_elim (λ x. inl (omega (arith, l))) (λ x. ⊎_elim (λ y. inr (omega (arith, m))) (λ y. absurd (n (omega arith))) (lower b a)) (lower a b)
 
--- a store in another slot
-pub fill_sets : (b : Bool) (a : ℕ) (w o : List ℕ) (a' : ℕ) (v : List ℕ) → length w ≡ 11 → length v ≡ 11 → (b ≡ true → a ≡ a' → ⊥)
-    → fill b a w (sets o (11 * a') v) ≡ sets (fill b a w o) (11 * a') v
-fill_sets true a w o a' v l m n = sets_comm v w o (11 * a') (11 * a) (slots_apart v w a' a m l (λ e. n refl (sym e)))
-fill_sets false a w o a' v l m n = refl
+module _ (w : Pending → List ℕ) (eleven : (p : Pending) → length (w p) ≡ 11) where
+  -- a store in another slot
+  pub fill_sets : (q : Option Pending) (o : List ℕ) (a : ℕ) (v : List ℕ) → length v ≡ 11 → IfSome q (λ p. p.slot ≡ a → ⊥)
+      → fill w q (sets o (11 * a) v) ≡ sets (fill w q o) (11 * a) v
+  fill_sets None o a v m n = refl
+  fill_sets (Some p) o a v m n = sets_comm v (w p) o (11 * a) (11 * p.slot) (slots_apart v (w p) a p.slot m (eleven p) (λ e. n (sym e)))
 
--- two slots that wait
-pub fill_fill : (b : Bool) (a : ℕ) (w o : List ℕ) (b' : Bool) (a' : ℕ) (v : List ℕ) → length w ≡ 11 → length v ≡ 11
-    → (b ≡ true → b' ≡ true → a ≡ a' → ⊥) → fill b a w (fill b' a' v o) ≡ fill b' a' v (fill b a w o)
-fill_fill b a w o true a' v l m n = fill_sets b a w o a' v l m (λ e. n e refl)
-fill_fill b a w o false a' v l m n = refl
+  -- two slots that wait
+  pub fill_fill : (w' : Pending → List ℕ) → ((p : Pending) → length (w' p) ≡ 11) → (q r : Option Pending) (o : List ℕ) → Different q r
+      → fill w q (fill w' r o) ≡ fill w' r (fill w q o)
+  fill_fill w' eleven' None r o n = refl
+  fill_fill w' eleven' (Some a) None o n = refl
+  fill_fill w' eleven' (Some a) (Some b) o n = fill_sets (Some a) o b.slot (w' b) (eleven' b) n
 
 -- ---- words behind words
 

@@ -1,75 +1,69 @@
 -- A turn of the writing pass: what each of its three visits asks, and what they make together. Assumes nothing.
+use Rattle.std.specs.Prelude.{Option, Some, None, is_some}
 use Prim.Native.Nat.{ℕ, zero, suc, ◌+◌, ◌-◌, ◌≤◌, ◌<◌}
 use mathlib.Core.Path.{◌≡◌, refl, sym, ap, subst, ◌∙◌}
 use native.Mathlib.Nat.{add-zero}
-use mathlib.Core.Bool.{Bool, true, false, ◌||◌}
+use mathlib.Core.Bool.{Bool, true, false, ◌||◌, false≢true}
 use mathlib.Core.List.{List}
 use native.Mathlib.Omega.{arith}
 use lib.IntN.{ℤ}
-use Rattle.rules.specs.Halves.{half_at}
+use Rattle.rules.specs.Halves.{Half, half_at}
 use Rattle.rules.specs.Events.{starts}
 use Rattle.rules.proofs.Booleans.{bit_le}
 use Rattle.rules.proofs.Samples.{accepted_recording}
 use Rattle.rules.specs.declared.Settings.{Settings}
-use Rattle.rules.specs.declared.Half.{Half}
 use Rattle.rules.specs.declared.Kind.{Kind}
 use Rattle.rules.specs.declared.Kind.TheVariants.{Sag, Interruption, Swell}
+use Rattle.halves.specs.declared.Recording.{Recording}
 use Rattle.kinds.specs.declared.Marks.{Marks}
-use Rattle.kinds.specs.declared.Thresholds.{Thresholds}
 use Rattle.kinds.specs.declared.Level.{Level}
-use Rattle.kinds.specs.declared.Open.{Open}
 use Rattle.list.specs.declared.Pending.{Pending}
 use Rattle.list.specs.declared.Visited.{Visited}
 use Rattle.list.specs.declared.Pass.{Pass}
-use Rattle.kinds.specs.Machine.{marks_of, level_of, closed}
-use Rattle.list.specs.Listing.{Ready, Visiting, ReadyAll, Turning, visited, closes, turned, turned_out, turns, turns_out, rested}
-use Rattle.kinds.proofs.Machine.{level-known, inside_of, opens-out, opens-closed}
+use Rattle.kinds.specs.Machine.{marks_of, level_of}
+use Rattle.list.specs.Listing.{Ready, Visiting, ReadyAll, Turning, going, visited, closes, turned, turned_out, turns, turns_out, rested}
+use Rattle.kinds.proofs.Machine.{level-known, opens-out, opens-closed}
 use Rattle.quiet.specs.Quiet.{Resting}
 
 -- a visit gives out one slot at the most
-pub visited-few : (s : Settings) (xs : List ℤ) (kind : Kind) (k : ℕ) (q : Pending) (n : ℕ) (v : Visited) → v ≡ visited s xs kind k q n → v.n ≤ n + 1
+pub visited-few : (s : Settings) (xs : List ℤ) (kind : Kind) (k : ℕ) (q : Option Pending) (n : ℕ) (v : Visited) → v ≡ visited s xs kind k q n → v.n ≤ n + 1
 unfolding visited
 visited-few s xs kind k q n v e = rw e (omega (arith, bit_le (starts s (half_at s xs) kind k)))
 
-module _ {s : Settings} {xs : List ℤ} {m : Thresholds} {half : Half} {k : ℕ} {p : Pass} {room : ℕ} (t : Turning s xs m half k p room)
-    {l : Level} (is : l ≡ level_of s (half_at s xs k)) where
+module _ {r : Recording} {half : Half} {k : ℕ} {p : Pass} {room : ℕ} (t : Turning r half k p room)
+    {l : Option Level} (is : l ≡ level_of r.settings (half_at r.settings r.samples.now k)) where
   -- what the visit of a kind asks, where the visits before it have given out two slots at the most
-  pub visits : {kind : Kind} {marks : Marks} {q : Pending} {n room' : ℕ} → marks ≡ marks_of s kind → Ready s xs kind k q room → n ≤ p.n + 2
-      → room' ≡ room → Visiting s xs kind marks p.known k q l n room'
+  pub visits : {kind : Kind} {marks : Marks} {q : Option Pending} {n room' : ℕ} → marks ≡ marks_of r.settings kind → Ready r.settings r.samples.now kind k q room → n ≤ p.n + 2
+      → room' ≡ room → Visiting r kind marks p.known k q l n room'
   visits of_kind ready few same =
       record {
-        good-settings = t.good-settings;
         accepted = t.accepted;
         marks = of_kind;
         known-before = t.ready.known-before;
         high = t.high;
         ready = rw same ready;
         levels = is;
-        few = omega (arith, few, t.ready.few, t.high, (accepted_recording s xs t.accepted).few);
+        few = omega (arith, few, t.ready.few, t.high, r.counted, (accepted_recording r.settings r.samples.now t.accepted).few);
       }
 
   -- the three visits together
-  module _ {a b c : Visited} (ea : a ≡ visited s xs Sag k p.sag p.n) (eb : b ≡ visited s xs Interruption k p.interruption a.n)
-      (ec : c ≡ visited s xs Swell k p.swell b.n) where
-    pub turn_made : ◌≡◌ {A = Pass} (record { known = l.known; n = c.n; sag = a.pending; interruption = b.pending; swell = c.pending }) (turned s xs k p)
+  module _ {a b c : Visited} (ea : a ≡ visited r.settings r.samples.now Sag k p.sag p.n) (eb : b ≡ visited r.settings r.samples.now Interruption k p.interruption a.n)
+      (ec : c ≡ visited r.settings r.samples.now Swell k p.swell b.n) where
+    pub turn_made : ◌≡◌ {A = Pass} (record { known = is_some l; n = c.n; sag = a.pending; interruption = b.pending; swell = c.pending }) (turned r.settings r.samples.now k p)
     unfolding turned
-    turn_made = rw (ec, eb, ea, is, level-known s (half_at s xs k))
+    turn_made = rw (ec, eb, ea, is, level-known r.settings (half_at r.settings r.samples.now k))
 
-  pub turn_out : (out o₁ o₂ o₃ : List ℕ) → o₁ ≡ closes s xs Sag k p.sag out → o₂ ≡ closes s xs Interruption k p.interruption o₁
-      → o₃ ≡ closes s xs Swell k p.swell o₂ → o₃ ≡ turned_out s xs k p out
+  pub turn_out : (out o₁ o₂ o₃ : List ℕ) → o₁ ≡ closes r.settings r.samples.now Sag k p.sag out → o₂ ≡ closes r.settings r.samples.now Interruption k p.interruption o₁
+      → o₃ ≡ closes r.settings r.samples.now Swell k p.swell o₂ → o₃ ≡ turned_out r.settings r.samples.now k p out
   unfolding turned_out
   turn_out out o₁ o₂ o₃ e f g = rw (g, f, e)
 
 -- ---- turns at half-cycles at which nothing goes on
 
-abbrev pend : Open → ℕ → Pending
-pend o slot = record { event = o; slot = slot }
-
-abbrev visit : Pending → ℕ → Visited
-visit q n = record { pending = q; n = n }
-
-still : (q : Pending) → q.event ≡ closed → pend closed q.slot ≡ q
-still q e = ap (λ (o : Open). pend o q.slot) (sym e)
+-- where no event is going on, no slot waits
+pub none-waits : (q : Option Pending) → going q ≡ None → q ≡ None
+none-waits None e = refl
+none-waits (Some p) e = absurd (false≢true (sym (ap is_some e)))
 
 -- nothing has changed but that the half-cycle before is known
 abbrev pub calmed : Pass → Pass
@@ -90,17 +84,16 @@ rested-none p = rw (or_false p.known)
     or_false false = refl
 
 module _ (s : Settings) (xs : List ℤ) (k : ℕ) (p : Pass) (room : ℕ) (r : Resting s (half_at s xs) k) (ready : ReadyAll s xs k p room) where
-  was_closed : {kind : Kind} {q : Pending} → Ready s xs kind k q room → q.event ≡ closed
-  was_closed {kind} ok = ok.state ∙ opens-out s (half_at s xs) kind k (r.out-before kind)
+  was_none : {kind : Kind} {q : Option Pending} → Ready s xs kind k q room → q ≡ None
+  was_none {kind} {q} ok = none-waits q (ok.state ∙ opens-out s (half_at s xs) kind k (r.out-before kind))
 
-  visit_rests : {kind : Kind} {q : Pending} → Ready s xs kind k q room → (n : ℕ) → visited s xs kind k q n ≡ visit q n
+  visit_rests : {kind : Kind} {q : Option Pending} → Ready s xs kind k q room → (n : ℕ) → visited s xs kind k q n ≡ record { pending = q; n = n }
   unfolding visited starts
-  visit_rests {kind} {q} ok n =
-      rw (r.out kind, opens-closed s (half_at s xs) kind k (r.out kind), add-zero) (ap (λ (x : Pending). visit x n) (still q (was_closed ok)))
+  visit_rests {kind} ok n = rw (r.out kind, opens-closed s (half_at s xs) kind k (r.out kind), add-zero, was_none ok)
 
-  close_rests : {kind : Kind} {q : Pending} → Ready s xs kind k q room → (out : List ℕ) → closes s xs kind k q out ≡ out
+  close_rests : {kind : Kind} {q : Option Pending} → Ready s xs kind k q room → (out : List ℕ) → closes s xs kind k q out ≡ out
   unfolding closes
-  close_rests {kind} {q} ok out = rw (inside_of s (half_at s xs) kind k ok.state ∙ r.out-before kind)
+  close_rests ok out = rw (was_none ok)
 
   pub turn_rests : turned s xs k p ≡ calmed p
   unfolding turned

@@ -1,8 +1,10 @@
 -- The writing pass writes the list: once every slot that waits has its words, the run holds the events that start before
 -- half-cycle k. A turn keeps this, and in the end no slot waits. Assumes nothing.
+use Rattle.std.specs.Prelude.{Option, Some, None, is_some, IfSome}
+use Rattle.std.proofs.lemmas.Option.{IfSome_then}
 use Prim.Native.Nat.{ℕ, zero, suc, ◌+◌, ◌-◌, ◌*◌, ◌≤◌, ◌<◌}
 use mathlib.Core.Path.{◌≡◌, refl, sym, ap, subst, ◌∙◌}
-use mathlib.Core.Bool.{Bool, true, false, not, ◌&&◌, cond, false≢true}
+use mathlib.Core.Bool.{Bool, true, false, cond}
 use mathlib.Core.Logic.{⊎_elim}
 use mathlib.Core.List.{List, [], ◌∷◌, ◌++◌, append_assoc, append-nil}
 use native.Mathlib.Nat.{eq-or-lt_of_le, add-zero, le_trans}
@@ -11,31 +13,43 @@ use lib.ListN.{length, length-append}
 use lib.Seq.{sets, length-sets}
 use lib.IntN.{ℤ}
 use Rattle.rules.specs.Bounded.{before, bit, join}
-use Rattle.rules.specs.Halves.{known, half_at, halves_of}
+use Rattle.rules.specs.Halves.{Half, known, half_at, halves_of}
 use Rattle.rules.specs.Events.{in_event, starts}
 use Rattle.rules.specs.EventList.{event_from, words_of, event_at, events_at, events_of, flat}
-use Rattle.rules.proofs.Booleans.{cases, not_both, bit_le}
+use Rattle.rules.specs.Refusals.{over}
+use Rattle.rules.proofs.Booleans.{cases, bit_le}
 use Rattle.rules.proofs.Bounded.{count-more}
 use Rattle.rules.proofs.Longest.{in_past, half_past}
 use Rattle.rules.proofs.Order.{flat_append, flat-length, length-below}
 use Rattle.rules.specs.declared.Settings.{Settings}
-use Rattle.rules.specs.declared.Half.{Half}
 use Rattle.rules.specs.declared.Kind.{Kind}
 use Rattle.rules.specs.declared.Kind.TheVariants.{Sag, Interruption, Swell}
 use Rattle.kinds.specs.declared.Open.{Open}
 use Rattle.list.specs.declared.Pending.{Pending}
 use Rattle.list.specs.declared.Pass.{Pass}
-use Rattle.kinds.specs.Machine.{opens}
-use Rattle.list.specs.Listing.{ReadyAll, start_pass, visited, closes, turned, turned_out, turns, turns_out, over}
+use Rattle.kinds.specs.Machine.{lasting, launched, opens}
+use Rattle.list.specs.Listing.{ReadyAll, start_pass, going, pend, visited, closes, turned, turned_out, turns, turns_out}
 use Rattle.kinds.proofs.Machine.{inside_of, opens-closed, opens_lasts, opens_launches}
-use Rattle.list.proofs.Slots.{fill, fill_sets, fill_fill, put_next}
+use Rattle.list.proofs.Turns.{none-waits}
+use Rattle.list.proofs.Slots.{Different, fill, fill_sets, fill_fill, put_next}
 
--- a slot that waits is below n; two slots that wait are not the same
-abbrev pub Slotted : Pending → ℕ → Type 0
-Slotted p n = p.event.inside ≡ true → p.slot < n
+-- a slot that waits is below n
+abbrev pub Slotted : Option Pending → ℕ → Type 0
+Slotted q n = IfSome q (λ p. p.slot < n)
 
-abbrev pub Different : Pending → Pending → Type 0
-Different p q = p.event.inside ≡ true → q.event.inside ≡ true → p.slot ≡ q.slot → ⊥
+slotted-more : (q : Option Pending) (m n : ℕ) → m ≤ n → Slotted q m → Slotted q n
+slotted-more q m n l low = IfSome_then q low (λ p u. omega (arith, l, u))
+
+flip : (q r : Option Pending) → Different q r → Different r q
+flip None None d = tt
+flip None (Some b) d = tt
+flip (Some a) None d = tt
+flip (Some a) (Some b) d = λ e. d (sym e)
+
+pend_going : (q : Option Pending) (n : ℕ) (o : Option Open) → going (pend q n o) ≡ o
+pend_going q n None = refl
+pend_going None n (Some o) = refl
+pend_going (Some p) n (Some o) = refl
 
 module _ (s : Settings) (xs : List ℤ) where
   abbrev h : ℕ → Half
@@ -45,56 +59,51 @@ module _ (s : Settings) (xs : List ℤ) where
   abbrev words : Kind → Pending → List ℕ
   words kind p = words_of (event_from s xs kind p.event.start)
 
-  abbrev pub filled : Kind → Pending → List ℕ → List ℕ
-  filled kind p o = fill p.event.inside p.slot (words kind p) o
+  abbrev pub filled : Kind → Option Pending → List ℕ → List ℕ
+  filled kind q o = fill (words kind) q o
 
   -- ---- one kind
 
-  module _ (kind : Kind) (k n : ℕ) (p : Pending) (is : p.event ≡ opens s h kind k) where
-    abbrev next : Pending
-    next = (visited s xs kind k p n).pending
+  module _ (kind : Kind) (k n : ℕ) (q : Option Pending) (is : going q ≡ opens s h kind k) where
+    abbrev next : Option Pending
+    next = (visited s xs kind k q n).pending
+
+    was_in : (x : Option Pending) → q ≡ x → before (in_event s h kind) k ≡ is_some (going x)
+    was_in x e = sym (inside_of s h kind k is) ∙ ap (λ (y : Option Pending). is_some (going y)) e
 
     -- what a visit does, by whether the kind was in an event and is
-    lasts : p.event.inside ≡ true → in_event s h kind k ≡ true → (starts s h kind k ≡ false) × (next.event.inside ≡ true) × (next.event.start ≡ p.event.start)
+    lasts : (p : Pending) → q ≡ Some p → in_event s h kind k ≡ true
+        → (starts s h kind k ≡ false) × ((o : Open) × (o.start ≡ p.event.start) × (next ≡ Some (record { event = o; slot = p.slot })))
     unfolding starts visited
-    lasts w i =
-        let o : (opens s h kind k).inside ≡ true = ap (λ (o : Open). o.inside) (sym is) ∙ w in
-        (rw (i, sym (inside_of s h kind k is) ∙ w), rw (opens_lasts s h kind k i o), rw (opens_lasts s h kind k i o) (ap (λ (o : Open). o.start) (sym is)))
+    lasts p w i =
+        let f = opens_lasts s h kind k p.event i (sym is ∙ ap going w) in
+        let o = lasting kind k p.event f.0 in
+        (rw (i, was_in (Some p) w), (o, refl, rw f.2 (ap (λ (x : Option Pending). pend x n (Some o)) w)))
 
-    ends : p.event.inside ≡ true → in_event s h kind k ≡ false → (starts s h kind k ≡ false) × (next.event.inside ≡ false)
-    unfolding starts visited
-    ends w i = (rw i, rw (opens-closed s h kind k i))
-
-    begins : p.event.inside ≡ false → in_event s h kind k ≡ true → (starts s h kind k ≡ true) × (next.event.inside ≡ true) × (next.event.start ≡ k)
+    begins : q ≡ None → in_event s h kind k ≡ true
+        → (starts s h kind k ≡ true) × ((o : Open) × (o.start ≡ k) × (next ≡ Some (record { event = o; slot = n })))
     unfolding starts visited
     begins w i =
-        let o : (opens s h kind k).inside ≡ false = ap (λ (o : Open). o.inside) (sym is) ∙ w in
-        (rw (i, sym (inside_of s h kind k is) ∙ w), rw (opens_launches s h kind k i o), rw (opens_launches s h kind k i o))
+        let f = opens_launches s h kind k i (sym is ∙ ap going w) in
+        let o = launched kind (before (λ j. known (h j)) k) k f.0 in
+        (rw (i, was_in None w), (o, refl, rw f.2 (ap (λ (x : Option Pending). pend x n (Some o)) w)))
 
-    rests : in_event s h kind k ≡ false → (starts s h kind k ≡ false) × (next.event.inside ≡ false)
+    rests : in_event s h kind k ≡ false → (starts s h kind k ≡ false) × (next ≡ None)
     unfolding starts visited
     rests i = (rw i, rw (opens-closed s h kind k i))
 
     -- the four cases of a visit
     module _ (P : Type 0)
-        (on-lasts : p.event.inside ≡ true → in_event s h kind k ≡ true → P)
-        (on-ends : p.event.inside ≡ true → in_event s h kind k ≡ false → P)
-        (on-begins : p.event.inside ≡ false → in_event s h kind k ≡ true → P)
-        (on-rests : p.event.inside ≡ false → in_event s h kind k ≡ false → P) where
+        (on-lasts : (p : Pending) → q ≡ Some p → in_event s h kind k ≡ true → P)
+        (on-ends : (p : Pending) → q ≡ Some p → in_event s h kind k ≡ false → P)
+        (on-begins : q ≡ None → in_event s h kind k ≡ true → P)
+        (on-rests : q ≡ None → in_event s h kind k ≡ false → P) where
       by_case : P
-      by_case =
-          ⊎_elim
-          (λ w. ⊎_elim (on-lasts w) (on-ends w) (cases (in_event s h kind k)))
-          (λ w. ⊎_elim (on-begins w) (on-rests w) (cases (in_event s h kind k)))
-          (cases p.event.inside)
-
-    slot_stays : starts s h kind k ≡ false → next.slot ≡ p.slot
-    unfolding visited
-    slot_stays e = rw e
-
-    slot_new : starts s h kind k ≡ true → next.slot ≡ n
-    unfolding visited
-    slot_new e = rw e
+      by_case = by q refl
+        where
+          by : (x : Option Pending) → q ≡ x → P
+          by (Some p) w = ⊎_elim (on-lasts p w) (on-ends p w) (cases (in_event s h kind k))
+          by None w = ⊎_elim (on-begins w) (on-rests w) (cases (in_event s h kind k))
 
     none-starts : starts s h kind k ≡ false → event_at s xs kind k ≡ []
     unfolding event_at
@@ -104,79 +113,79 @@ module _ (s : Settings) (xs : List ℤ) where
     unfolding event_at
     one-starts e = rw e
 
-    pub next_low : Slotted p n → Slotted next (n + bit (starts s h kind k))
-    next_low low i =
-        by_case (next.slot < n + bit (starts s h kind k))
-        (λ w y. let f = lasts w y in let e = slot_stays f.0 in omega (arith, low w, e))
-        (λ w y. absurd (not_both next.event.inside i (ends w y).1))
-        (λ w y. let f = begins w y in omega (arith, slot_new f.0, ap bit f.0))
-        (λ w y. absurd (not_both next.event.inside i (rests y).1))
+    pub next_low : Slotted q n → Slotted next (n + bit (starts s h kind k))
+    next_low low =
+        by_case (Slotted next (n + bit (starts s h kind k)))
+        (λ p w y. let f = lasts p w y in let l : p.slot < n = rw w at low in rw (f.1.2, f.0) (omega (arith, l)))
+        (λ p w y. rw (rests y).1 tt)
+        (λ w y. let f = begins w y in rw (f.1.2, f.0) (omega arith))
+        (λ w y. rw (rests y).1 tt)
 
-    pub next_apart : (q : Pending) → Different p q → Slotted q n → Different next q
-    next_apart q differ low i j e =
-        by_case ⊥
-        (λ w y. differ w j (sym (slot_stays (lasts w y).0) ∙ e))
-        (λ w y. not_both next.event.inside i (ends w y).1)
-        (λ w y. let f = begins w y in omega (arith, low j, slot_new f.0, e))
-        (λ w y. not_both next.event.inside i (rests y).1)
+    pub next_apart : (r : Option Pending) → Different q r → Slotted r n → Different next r
+    next_apart r differ low =
+        by_case (Different next r)
+        (λ p w y. let f = lasts p w y in rw f.1.2 (rw w at differ))
+        (λ p w y. rw (rests y).1 tt)
+        (λ w y. let f = begins w y in rw f.1.2 (IfSome_then r low (λ b l e. omega (arith, l, e))))
+        (λ w y. rw (rests y).1 tt)
 
     -- A turn of one kind. F fills the other two kinds' slots, and a store in this kind's slot passes through it.
     module _ (F : List ℕ → List ℕ) (E o₀ out : List ℕ) (size : length E ≡ 11 * n) (room : 11 * (n + bit (starts s h kind k)) ≤ length o₀)
-        (through : p.event.inside ≡ true → F (sets out (11 * p.slot) (words kind p)) ≡ sets (F out) (11 * p.slot) (words kind p))
-        (whole : filled kind p (F out) ≡ over E o₀) where
+        (through : (p : Pending) → q ≡ Some p → F (sets out (11 * p.slot) (words kind p)) ≡ sets (F out) (11 * p.slot) (words kind p))
+        (whole : filled kind q (F out) ≡ over E o₀) where
       abbrev Goal : Type 0
-      Goal = filled kind next (F (closes s xs kind k p out)) ≡ over (E ++ flat (event_at s xs kind k)) o₀
+      Goal = filled kind next (F (closes s xs kind k q out)) ≡ over (E ++ flat (event_at s xs kind k)) o₀
 
-      case_lasts : p.event.inside ≡ true → in_event s h kind k ≡ true → Goal
-      unfolding closes visited event_at
-      case_lasts w y =
-          let f = lasts w y in
-          rw (w, y, f.1, f.2, slot_stays f.0, none-starts f.0, append-nil) (rw w at whole)
+      case_lasts : (p : Pending) → q ≡ Some p → in_event s h kind k ≡ true → Goal
+      unfolding closes
+      case_lasts p w y =
+          let f = lasts p w y in
+          rw (f.1.2, f.1.1, none-starts f.0, append-nil, w, y) (rw w at whole)
 
-      case_ends : p.event.inside ≡ true → in_event s h kind k ≡ false → Goal
-      unfolding closes visited event_at
-      case_ends w y =
-          let f = ends w y in rw (w, y, f.1, none-starts f.0, append-nil) (through w ∙ (rw w at whole))
+      case_ends : (p : Pending) → q ≡ Some p → in_event s h kind k ≡ false → Goal
+      unfolding closes
+      case_ends p w y =
+          let f = rests y in rw (f.1, none-starts f.0, append-nil, w, y) (through p w ∙ (rw w at whole))
 
-      case_begins : p.event.inside ≡ false → in_event s h kind k ≡ true → Goal
-      unfolding closes visited event_at
+      case_begins : q ≡ None → in_event s h kind k ≡ true → Goal
+      unfolding closes
       case_begins w y =
           let f = begins w y in
           let e : F out ≡ over E o₀ = rw w at whole in
           let fits : 11 * n + 11 ≤ length o₀ = omega (arith, ap bit f.0) in
-          rw (w, f.1, f.2, slot_new f.0, one-starts f.0, e) (put_next E o₀ (words_of (event_from s xs kind k)) (11 * n) size fits)
+          rw (f.1.2, f.1.1, one-starts f.0, w, e) (put_next E o₀ (words_of (event_from s xs kind k)) (11 * n) size fits)
 
-      case_rests : p.event.inside ≡ false → in_event s h kind k ≡ false → Goal
-      unfolding closes visited event_at
-      case_rests w y = let f = rests y in rw (w, f.1, none-starts f.0, append-nil) (rw w at whole)
+      case_rests : q ≡ None → in_event s h kind k ≡ false → Goal
+      unfolding closes
+      case_rests w y = let f = rests y in rw (f.1, none-starts f.0, append-nil, w) (rw w at whole)
 
       pub visit_whole : Goal
       visit_whole = by_case Goal case_lasts case_ends case_begins case_rests
 
   -- ---- the three kinds: the kind to be visited is filled innermost, and after its visit outermost
 
-  module _ (k n : ℕ) (kA : Kind) (pA : Pending) (kB : Kind) (pB : Pending) (kind : Kind) (p : Pending)
-      (is : p.event ≡ opens s h kind k) (A-differs : Different pA p) (B-differs : Different pB p)
+  module _ (k n : ℕ) (kA : Kind) (qA : Option Pending) (kB : Kind) (qB : Option Pending) (kind : Kind) (q : Option Pending)
+      (is : going q ≡ opens s h kind k) (A-differs : Different qA q) (B-differs : Different qB q)
       (E o₀ out : List ℕ) (size : length E ≡ 11 * n) (room : 11 * (n + bit (starts s h kind k)) ≤ length o₀)
-      (whole : filled kA pA (filled kB pB (filled kind p out)) ≡ over E o₀) where
+      (whole : filled kA qA (filled kB qB (filled kind q out)) ≡ over E o₀) where
     abbrev others : List ℕ → List ℕ
-    others o = filled kA pA (filled kB pB o)
+    others o = filled kA qA (filled kB qB o)
 
-    through : p.event.inside ≡ true → others (sets out (11 * p.slot) (words kind p)) ≡ sets (others out) (11 * p.slot) (words kind p)
-    through w =
-        ap (filled kA pA) (fill_sets pB.event.inside pB.slot (words kB pB) out p.slot (words kind p) refl refl (λ i. B-differs i w))
-        ∙ fill_sets pA.event.inside pA.slot (words kA pA) (filled kB pB out) p.slot (words kind p) refl refl (λ i. A-differs i w)
+    through : (p : Pending) → q ≡ Some p → others (sets out (11 * p.slot) (words kind p)) ≡ sets (others out) (11 * p.slot) (words kind p)
+    through p w =
+        ap (filled kA qA) (fill_sets (words kB) (λ b. refl) qB out p.slot (words kind p) refl (rw w at B-differs))
+        ∙ fill_sets (words kA) (λ a. refl) qA (filled kB qB out) p.slot (words kind p) refl (rw w at A-differs)
 
-    inside_out : filled kind p (others out) ≡ over E o₀
+    inside_out : filled kind q (others out) ≡ over E o₀
     inside_out =
         sym (
-        ap (filled kA pA) (fill_fill pB.event.inside pB.slot (words kB pB) out p.event.inside p.slot (words kind p) refl refl B-differs)
-        ∙ fill_fill pA.event.inside pA.slot (words kA pA) (filled kB pB out) p.event.inside p.slot (words kind p) refl refl A-differs)
+        ap (filled kA qA) (fill_fill (words kB) (λ b. refl) (words kind) (λ p. refl) qB q out B-differs)
+        ∙ fill_fill (words kA) (λ a. refl) (words kind) (λ p. refl) qA q (filled kB qB out) A-differs)
         ∙ whole
 
-    pub kind_whole : filled kind (visited s xs kind k p n).pending (filled kA pA (filled kB pB (closes s xs kind k p out)))
+    pub kind_whole : filled kind (visited s xs kind k q n).pending (filled kA qA (filled kB qB (closes s xs kind k q out)))
         ≡ over (E ++ flat (event_at s xs kind k)) o₀
-    kind_whole = visit_whole kind k n p is others E o₀ out size room through inside_out
+    kind_whole = visit_whole kind k n q is others E o₀ out size room through inside_out
 
   -- ---- the pass
 
@@ -189,9 +198,9 @@ module _ (s : Settings) (xs : List ℤ) where
     pub few : p.n ≤ 3 * k
     pub same : length out ≡ length o₀
     pub size : length (words_below k) ≡ 11 * p.n
-    pub sag : p.sag.event ≡ opens s h Sag k
-    pub interruption : p.interruption.event ≡ opens s h Interruption k
-    pub swell : p.swell.event ≡ opens s h Swell k
+    pub sag : going p.sag ≡ opens s h Sag k
+    pub interruption : going p.interruption ≡ opens s h Interruption k
+    pub swell : going p.swell ≡ opens s h Swell k
     pub sag-low : Slotted p.sag p.n
     pub interruption-low : Slotted p.interruption p.n
     pub swell-low : Slotted p.swell p.n
@@ -200,16 +209,14 @@ module _ (s : Settings) (xs : List ℤ) where
     pub swell-sag : Different p.swell p.sag
     pub whole : filled Swell p.swell (filled Interruption p.interruption (filled Sag p.sag out)) ≡ over (words_below k) o₀
 
-  flip : (p q : Pending) → Different p q → Different q p
-  flip p q d i j e = d j i (sym e)
-
-  length-closes : (kind : Kind) (k : ℕ) (p : Pending) (out : List ℕ) → length (closes s xs kind k p out) ≡ length out
+  length-closes : (kind : Kind) (k : ℕ) (q : Option Pending) (out : List ℕ) → length (closes s xs kind k q out) ≡ length out
   unfolding closes
-  length-closes kind k p out = either (p.event.inside && not (in_event s h kind k))
+  length-closes kind k None out = refl
+  length-closes kind k (Some p) out = either (in_event s h kind k)
     where
-      either : (b : Bool) → length (cond b (sets out (11 * p.slot) (words kind p)) out) ≡ length out
-      either true = length-sets out (11 * p.slot) (words kind p)
-      either false = refl
+      either : (b : Bool) → length (cond b out (sets out (11 * p.slot) (words kind p))) ≡ length out
+      either true = refl
+      either false = length-sets out (11 * p.slot) (words kind p)
 
   out-length : (k : ℕ) (p : Pass) (out : List ℕ) → length (turned_out s xs k p out) ≡ length out
   unfolding turned_out
@@ -257,13 +264,13 @@ module _ (s : Settings) (xs : List ℤ) where
     abbrev n₃ : ℕ
     n₃ = p.n + up Sag + up Interruption + up Swell
 
-    abbrev a : Pending
+    abbrev a : Option Pending
     a = (visited s xs Sag k p.sag p.n).pending
 
-    abbrev b : Pending
+    abbrev b : Option Pending
     b = (visited s xs Interruption k p.interruption n₁).pending
 
-    abbrev c : Pending
+    abbrev c : Option Pending
     c = (visited s xs Swell k p.swell n₂).pending
 
     abbrev out₁ : List ℕ
@@ -296,10 +303,10 @@ module _ (s : Settings) (xs : List ℤ) where
     a_low = next_low Sag k p.n p.sag w.sag w.sag-low
 
     b_low : Slotted b n₂
-    b_low = next_low Interruption k n₁ p.interruption w.interruption (λ i. omega (arith, w.interruption-low i))
+    b_low = next_low Interruption k n₁ p.interruption w.interruption (slotted-more p.interruption p.n n₁ (omega arith) w.interruption-low)
 
     c_low : Slotted c n₃
-    c_low = next_low Swell k n₂ p.swell w.swell (λ i. omega (arith, w.swell-low i))
+    c_low = next_low Swell k n₂ p.swell w.swell (slotted-more p.swell p.n n₂ (omega arith) w.swell-low)
 
     -- each pair of slots stays different, kind after kind
     a_interruption : Different a p.interruption
@@ -312,10 +319,11 @@ module _ (s : Settings) (xs : List ℤ) where
     b_a = next_apart Interruption k n₁ p.interruption w.interruption a (flip a p.interruption a_interruption) a_low
 
     b_swell : Different b p.swell
-    b_swell = next_apart Interruption k n₁ p.interruption w.interruption p.swell w.interruption-swell (λ i. omega (arith, w.swell-low i))
+    b_swell =
+        next_apart Interruption k n₁ p.interruption w.interruption p.swell w.interruption-swell (slotted-more p.swell p.n n₁ (omega arith) w.swell-low)
 
     c_a : Different c a
-    c_a = next_apart Swell k n₂ p.swell w.swell a (flip a p.swell a_swell) (λ i. omega (arith, a_low i))
+    c_a = next_apart Swell k n₂ p.swell w.swell a (flip a p.swell a_swell) (slotted-more a n₁ n₂ (omega arith) a_low)
 
     c_b : Different c b
     c_b = next_apart Swell k n₂ p.swell w.swell b (flip b p.swell b_swell) b_low
@@ -344,11 +352,11 @@ module _ (s : Settings) (xs : List ℤ) where
           few = omega (arith, w.few, bit_le (starts s h Sag k), bit_le (starts s h Interruption k), bit_le (starts s h Swell k));
           same = out-length k p out ∙ w.same;
           size = size₃;
-          sag = refl;
-          interruption = refl;
-          swell = refl;
-          sag-low = λ i. omega (arith, a_low i);
-          interruption-low = λ i. omega (arith, b_low i);
+          sag = pend_going p.sag p.n (opens s h Sag (suc k));
+          interruption = pend_going p.interruption n₁ (opens s h Interruption (suc k));
+          swell = pend_going p.swell n₂ (opens s h Swell (suc k));
+          sag-low = slotted-more a n₁ n₃ (omega arith) a_low;
+          interruption-low = slotted-more b n₂ n₃ (omega arith) b_low;
           swell-low = c_low;
           sag-interruption = flip b a b_a;
           interruption-swell = flip c b c_b;
@@ -369,12 +377,12 @@ module _ (s : Settings) (xs : List ℤ) where
         sag = refl;
         interruption = refl;
         swell = refl;
-        sag-low = λ i. absurd (false≢true i);
-        interruption-low = λ i. absurd (false≢true i);
-        swell-low = λ i. absurd (false≢true i);
-        sag-interruption = λ i j x. false≢true i;
-        interruption-swell = λ i j x. false≢true i;
-        swell-sag = λ i j x. false≢true i;
+        sag-low = tt;
+        interruption-low = tt;
+        swell-low = tt;
+        sag-interruption = tt;
+        interruption-swell = tt;
+        swell-sag = tt;
         whole = refl;
       })
 
@@ -431,14 +439,16 @@ module _ (s : Settings) (xs : List ℤ) where
       record {
         known-before = w.known-before;
         few = w.few;
-        sag = record { state = w.sag; slot = λ i. omega (arith, w.sag-low i, w.size, w.same) };
-        interruption = record { state = w.interruption; slot = λ i. omega (arith, w.interruption-low i, w.size, w.same) };
-        swell = record { state = w.swell; slot = λ i. omega (arith, w.swell-low i, w.size, w.same) };
+        sag = record { state = w.sag; slot = fits p.sag w.sag-low };
+        interruption = record { state = w.interruption; slot = fits p.interruption w.interruption-low };
+        swell = record { state = w.swell; slot = fits p.swell w.swell-low };
       }
+    where
+      fits : (q : Option Pending) → Slotted q p.n → IfSome q (λ x. 11 * x.slot + 11 ≤ length out)
+      fits q low = IfSome_then q low (λ x l. omega (arith, l, w.size, w.same, room))
 
-  not_waiting : (kind : Kind) (p : Pending) (o : List ℕ) → p.event ≡ opens s h kind (suc (halves_of s xs)) → filled kind p o ≡ o
-  not_waiting kind p o e =
-      let f : p.event.inside ≡ false = inside_of s h kind (suc (halves_of s xs)) e ∙ none_past kind in rw f
+  not_waiting : (kind : Kind) (q : Option Pending) (o : List ℕ) → going q ≡ opens s h kind (suc (halves_of s xs)) → filled kind q o ≡ o
+  not_waiting kind q o e = rw (none-waits q (e ∙ opens-closed s h kind (halves_of s xs) (none_past kind)))
 
   pub writing_done : (k : ℕ) (p : Pass) (out o₀ : List ℕ) → k ≡ suc (halves_of s xs) → Writing k p out o₀ → out ≡ over (flat (events_of s xs)) o₀
   writing_done k p out o₀ e w =

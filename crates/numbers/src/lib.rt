@@ -1,46 +1,40 @@
-// Plain numbers and runs of them: the lesser and the greater of two, a division for any divisor, three numbers that make up a whole,
-// one run copied into another, two runs added place by place, and two sums channel by channel.
+// Plain numbers and runs of them: the least and the greatest of three, a division for any divisor, three numbers that make up a
+// whole, one run copied into another, two runs added place by place, and two sums channel by channel.
 #![tactic(auto)]
 
-ghost use Rattle.std.specs.Prelude.{◌≡◌, ℕ, ◌+◌, ◌/◌, ◌%◌, ◌^◌, ◌≤◌, ◌<◌, min, max, eqb, length, get_or};
+ghost use Rattle.std.specs.Prelude.{◌≡◌, ℕ, ◌+◌, ◌/◌, ◌%◌, ◌^◌, ◌≤◌, ◌<◌, eqb, length, get_or};
 ghost use Rattle.std.proofs.Math.Seq.{paste};
 ghost use Rattle.rules.specs.Halves.{of_channel, channels};
-ghost use Rattle.rules.specs.Events.{plus};
+ghost use Rattle.rules.specs.Events.{least, greatest, plus};
 
 use rules::Sums;
 
-// The lesser of two.
-pub fn min(x: u64, y: u64) -> u64
-    ensures { result ≡ min x y }
+// The least of the three.
+pub fn least(v: Sums) -> u64
+    ensures { result ≡ least v }
 {
-    if y < x { y } else { x }
+    v.a.min(v.b).min(v.c)
 }
 
-// The greater of two.
-pub fn max(x: u64, y: u64) -> u64
-    ensures { result ≡ max x y }
+// The greatest of the three.
+pub fn greatest(v: Sums) -> u64
+    ensures { result ≡ greatest v }
 {
-    if x < y { y } else { x }
+    v.a.max(v.b).max(v.c)
 }
 
 // How often d goes into x: 0 where d is 0.
 pub fn quotient(x: u64, d: u64) -> u64
     ensures { result ≡ x / d }
 {
-    if d == 0 {
-        return 0;
-    }
-    x / d
+    x.checked_div(d).unwrap_or(0)
 }
 
 // What is left of x then: x where d is 0.
 pub fn remainder(x: u64, d: u64) -> u64
     ensures { result ≡ x % d }
 {
-    if d == 0 {
-        return x;
-    }
-    x % d
+    x.checked_rem(d).unwrap_or(x)
 }
 
 // Whether three numbers make up the whole. They are taken off it one after the other: a sum of any three could wrap and look right.
@@ -62,11 +56,7 @@ pub fn copy(from: &[u64], out: &mut [u64], at: usize)
     requires { at + length from.now ≤ length out.old }
     ensures { out.new ≡ paste out.old at from.now (length from.now) }
 {
-    let mut i: usize = 0;
-    while i < from.len() {
-        out[at + i] = from[i];
-        i += 1;
-    }
+    out[at..at + from.len()].copy_from_slice(from);
 }
 
 // `more` added to `sum`, number by number.
@@ -74,10 +64,8 @@ pub fn add_each(sum: &mut [u64], more: &[u64])
     requires { (length sum.old ≡ length more.now) × ((i : ℕ) → get_or sum.old i 0 + get_or more.now i 0 < 2 ^ 64) }
     ensures { sum.new ≡ plus sum.old more.now }
 {
-    let mut k: usize = 0;
-    while k < more.len() {
-        sum[k] = sum[k] + more[k];
-        k += 1;
+    for (k, x) in more.iter().enumerate() {
+        sum[k] += *x;
     }
 }
 

@@ -1,25 +1,23 @@
-// Text and numbers on a program's standard output.
+// How a row of numbers is written on a program's standard output.
 #![tactic(auto)]
 
-use std::io;
+ghost use Rattle.std.specs.Prelude.{◌∷◌, Some};
+ghost use Rattle.std.specs.List.{flat_map};
+ghost use Rattle.std.specs.Fmt.{decimal};
 
-// Bytes as they are.
-pub fn text(rt: &impl Print, bytes: &[u8]) -> io::Result<()> {
-    rt.write_all(bytes)
-}
+use std::fmt;
 
-// A number in decimal, after a space.
-pub fn number(rt: &impl Print, x: u64) -> io::Result<()> {
-    print!(rt; " {x}")
-}
+// Numbers in decimal, each after a space.
+#[derive(Clone, Copy, Debug)]
+pub struct Row<'a>(pub &'a [u64]);
 
-// A signed number in decimal, after a space.
-pub fn signed(rt: &impl Print, x: i32) -> io::Result<()> {
-    let wide = x as i64;
-    if wide < 0 {
-        rt.write_all(b" -")?;
-        rt.print((0 - wide) as u64)
-    } else {
-        number(rt, wide as u64)
+impl fmt::Display for Row<'_> {
+    ghost output = { λ row. Some (flat_map (λ x. 32 ∷ decimal x) row.0.now) };
+
+    fn fmt<W: fmt::Write>(&self, f: &mut fmt::Formatter<W>) -> fmt::Result {
+        for x in self.0 {
+            write!(f, " {x}")?;
+        }
+        Ok(())
     }
 }

@@ -1,5 +1,6 @@
 -- A half-cycle is quiet by the marks of a sag and a swell exactly where it is quiet by the rules; and where nothing was going on before
 -- it, nothing goes on at it. Assumes nothing.
+use Rattle.std.specs.Prelude.{Some, None}
 use Prim.Native.Nat.{ℕ, zero, suc, ◌+◌, ◌-◌, ◌*◌, ◌≤◌, ◌<◌}
 use mathlib.Core.Path.{◌≡◌, refl, sym, ap, ◌∙◌}
 use mathlib.Core.Bool.{Bool, true, false, not, ◌&&◌, ◌||◌}
@@ -9,13 +10,11 @@ use native.Mathlib.Omega.{arith}
 use borrow.Author.Tests.{ltb-true, ltb-false, lt-leb, le-leb, le-ltb, not-true}
 use lib.Dec.{leb, ltb}
 use Rattle.rules.specs.Bounded.{before}
-use Rattle.rules.specs.Halves.{known, full}
+use Rattle.rules.specs.Halves.{Half, known, full}
 use Rattle.rules.specs.Events.{begins, ends, in_event, least, greatest}
 use Rattle.rules.specs.Demands.{Good}
 use Rattle.rules.specs.declared.Settings.{Settings}
 use Rattle.rules.specs.declared.Sums.{Sums}
-use Rattle.rules.specs.declared.Half.{Half}
-use Rattle.rules.specs.declared.Half.TheVariants.{Unknown, Known}
 use Rattle.rules.specs.declared.Kind.{Kind}
 use Rattle.rules.specs.declared.Kind.TheVariants.{Sag, Interruption, Swell}
 use Rattle.rules.proofs.Booleans.{cases, both}
@@ -37,29 +36,29 @@ or_none false b = refl
 
 module _ (s : Settings) (v : Sums) where
   -- where nothing is going on, an event begins by one mark
-  begins-sag : ltb (10000 * least v) (mark_of s s.sag) ≡ begins s Sag (Known v)
+  begins-sag : ltb (10000 * least v) (mark_of s s.sag) ≡ begins s Sag (Some v)
   unfolding goes_by level_of
   begins-sag =
       sym (or_none (ltb (10000 * least v) (mark_of s s.sag)) (ltb (10000 * least v) (mark_of s (s.sag + s.hysteresis))))
-      ∙ goes_is s false Sag (Known v)
-      ∙ or_none (begins s Sag (Known v)) (not (ends s Sag (Known v)))
+      ∙ goes_is s false Sag (Some v)
+      ∙ or_none (begins s Sag (Some v)) (not (ends s Sag (Some v)))
 
-  begins-interruption : ltb (10000 * greatest v) (mark_of s s.interruption) ≡ begins s Interruption (Known v)
+  begins-interruption : ltb (10000 * greatest v) (mark_of s s.interruption) ≡ begins s Interruption (Some v)
   unfolding goes_by level_of
   begins-interruption =
       sym (or_none (ltb (10000 * greatest v) (mark_of s s.interruption)) (ltb (10000 * greatest v) (mark_of s (s.interruption + s.hysteresis))))
-      ∙ goes_is s false Interruption (Known v)
-      ∙ or_none (begins s Interruption (Known v)) (not (ends s Interruption (Known v)))
+      ∙ goes_is s false Interruption (Some v)
+      ∙ or_none (begins s Interruption (Some v)) (not (ends s Interruption (Some v)))
 
-  begins-swell : ltb (mark_of s s.swell) (10000 * greatest v) ≡ begins s Swell (Known v)
+  begins-swell : ltb (mark_of s s.swell) (10000 * greatest v) ≡ begins s Swell (Some v)
   unfolding goes_by level_of
   begins-swell =
       sym (or_none (ltb (mark_of s s.swell) (10000 * greatest v)) (ltb (mark_of s (s.swell - s.hysteresis)) (10000 * greatest v)))
-      ∙ goes_is s false Swell (Known v)
-      ∙ or_none (begins s Swell (Known v)) (not (ends s Swell (Known v)))
+      ∙ goes_is s false Swell (Some v)
+      ∙ or_none (begins s Swell (Some v)) (not (ends s Swell (Some v)))
 
   -- no interruption begins where no sag does
-  no_interruption : Good s → begins s Sag (Known v) ≡ false → begins s Interruption (Known v) ≡ false
+  no_interruption : Good s → begins s Sag (Some v) ≡ false → begins s Interruption (Some v) ≡ false
   no_interruption g e =
       let squares : s.interruption * s.interruption ≤ s.sag * s.sag =
       let l : s.interruption ≤ s.sag = omega (arith, g.interruption-high, g.sag-low) in mul-le-mul l l in
@@ -69,15 +68,15 @@ module _ (s : Settings) (v : Sums) where
 
 pub quiet_is : (s : Settings) → Good s → (v : Half) → quiet_by (thresholds_of s) v ≡ is_quiet s v
 unfolding quiet_by is_quiet
-quiet_is s g Unknown = refl
-quiet_is s g (Known v) =
+quiet_is s g None = refl
+quiet_is s g (Some v) =
     rw (
       at_or_not (10000 * least v) (mark_of s s.sag),
       at_or_not (mark_of s s.swell) (10000 * greatest v),
       begins-sag s v,
       begins-swell s v,
     )
-    (three (begins s Sag (Known v)) (begins s Interruption (Known v)) (begins s Swell (Known v)) (no_interruption s v g))
+    (three (begins s Sag (Some v)) (begins s Interruption (Some v)) (begins s Swell (Some v)) (no_interruption s v g))
   where
     three : (a b c : Bool) → (a ≡ false → b ≡ false) → not a && not c ≡ (not a && not b) && not c
     three true b c h = refl
@@ -87,7 +86,7 @@ pub quiet_told : (s : Settings) → Good s → (m : Thresholds) (v w : Half) (b 
 quiet_told s g m v w b e f q = q ∙ rw (e, f) (quiet_is s g w)
 
 -- the test on the lowest and the highest of the three
-pub quiet_made : (m : Thresholds) (v : Half) (w : Sums) (l g : ℕ) → v ≡ Known w → l ≡ least w → g ≡ greatest w
+pub quiet_made : (m : Thresholds) (v : Half) (w : Sums) (l g : ℕ) → v ≡ Some w → l ≡ least w → g ≡ greatest w
     → leb m.sag.from (10000 * l) && leb (10000 * g) m.swell.from ≡ quiet_by m v
 unfolding quiet_by
 quiet_made m v w l g e f i = rw (e, f, i)

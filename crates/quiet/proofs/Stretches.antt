@@ -1,5 +1,6 @@
 -- What a pass may say of the half-cycles that it passed over: nothing goes on at them, and all their samples are in range. Assumes
 -- nothing.
+use Rattle.std.specs.Prelude.{Some, None}
 use Prim.Native.Nat.{ℕ, zero, suc, ◌-◌, ◌*◌, ◌≤◌, ◌<◌}
 use mathlib.Core.Path.{◌≡◌, refl}
 use mathlib.Core.Bool.{Bool, true, false, cond, false≢true}
@@ -9,30 +10,41 @@ use native.Mathlib.Nat.{eq-or-lt_of_le}
 use native.Mathlib.Omega.{arith}
 use lib.IntN.{ℤ}
 use Rattle.rules.specs.Bounded.{before}
-use Rattle.rules.specs.Halves.{begin, known, half_at, halves_of}
+use Rattle.rules.specs.Halves.{Half, begin, known, half_at, halves_of}
 use Rattle.rules.specs.Events.{in_event}
 use Rattle.rules.specs.declared.Settings.{Settings}
-use Rattle.rules.specs.declared.Half.{Half}
-use Rattle.rules.specs.declared.Half.TheVariants.{Unknown, Known}
 use Rattle.rules.specs.declared.Kind.{Kind}
 use Rattle.rules.proofs.Longest.{first_low, first_high, first_between}
 use Rattle.rules.proofs.Ranges.{good}
 use Rattle.checks.specs.Flags.{RangedBelow, as_read}
 use Rattle.checks.proofs.Reading.{read_accepted}
 use Rattle.halves.specs.Steps.{step_at, joined_of}
+use Rattle.halves.specs.declared.Recording.{Recording}
 use Rattle.halves.proofs.Steps.{half_of_steps, known_step, ranged_next}
 use Rattle.kinds.specs.Machine.{Few}
 use Rattle.kinds.specs.declared.Thresholds.{Thresholds}
 use Rattle.kinds.proofs.Limits.{few-half}
-use Rattle.quiet.specs.Quiet.{is_quiet, quiet_till, Resting, Reading}
+use Rattle.quiet.specs.Quiet.{is_quiet, quiet_till, Resting, Reading, Standing}
 use Rattle.quiet.proofs.Quiet.{quietly, stretch_rests}
 
 -- the second of two steps that make a known half-cycle is known
 second_known : (p q : Half) → known (joined_of p q) ≡ true → known q ≡ true
 unfolding joined_of
-second_known Unknown q e = absurd (false≢true e)
-second_known (Known u) Unknown e = absurd (false≢true e)
-second_known (Known u) (Known v) e = refl
+second_known None q e = absurd (false≢true e)
+second_known (Some u) None e = absurd (false≢true e)
+second_known (Some u) (Some v) e = refl
+
+-- a recording of good length is read by the thresholds of its settings
+pub reads : (r : Recording) (from to : ℕ) (first : Half) → Standing r from to first → Reading r.settings r.samples.now r.thresholds from to first
+reads r from to first q =
+    record {
+      good-settings = r.good;
+      shaped = r.shaped;
+      thresholds = r.marked;
+      ordered = q.ordered;
+      high = omega (arith, q.high, r.counted);
+      step = q.step;
+    }
 
 module _ {s : Settings} {xs : List ℤ} {m : Thresholds} {from to : ℕ} {first : Half} (r : Reading s xs m from to first) where
   abbrev h : ℕ → Half

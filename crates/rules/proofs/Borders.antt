@@ -13,13 +13,12 @@ use lib.Dec.{leb, ltb, eqb}
 use lib.ListN.{length, get_or}
 use Rattle.rules.specs.Bounded.{bit, count, sum, first_not}
 use Rattle.rules.specs.Recorder.{settings_good}
-use Rattle.rules.specs.Halves.{full, at_most}
+use Rattle.rules.specs.Halves.{Half, full, at_most}
 use Rattle.rules.specs.Events.{starts, end_of, extreme_of}
 use Rattle.rules.specs.Borders.{Borders, sets, known_set, borders_of, place_of, row_of, column_of, columns_in, cells_in, cell_at}
 use Rattle.rules.specs.Site.{cells, sag_cell, is_placed, is_unplaced}
 use Rattle.rules.specs.Demands.{every, rising, lies_in, Falling, fits, takes}
 use Rattle.rules.specs.declared.Settings.{Settings}
-use Rattle.rules.specs.declared.Half.{Half}
 use Rattle.rules.specs.declared.Kind.TheVariants.{Sag}
 use Rattle.rules.proofs.Adding.{parts-make_up}
 use Rattle.rules.proofs.Booleans.{both, not_both}

@@ -1,4 +1,5 @@
 -- What begins, ends and keeps going an event, channel by channel, in plain sums; and so what is in an event. Assumes nothing.
+use Rattle.std.specs.Prelude.{Some, None}
 use Prim.Native.Nat.{ℕ, zero, suc, ◌+◌, ◌-◌, ◌*◌, ◌≤◌, ◌<◌}
 use mathlib.Core.Path.{◌≡◌, refl, ◌∙◌}
 use mathlib.Core.Bool.{Bool, true, false, not, ◌&&◌, ◌||◌}
@@ -8,14 +9,12 @@ use native.Mathlib.Nat.{eq-or-lt_of_le, mul-le-mul, mul-le-mul_right}
 use native.Mathlib.Omega.{arith}
 use borrow.Author.Tests.{ltb-true, leb-true, leb-false, lt-ltb, le-leb, lt-leb, not-true}
 use Rattle.rules.specs.Bounded.{before}
-use Rattle.rules.specs.Halves.{of_channel, full, below, above, at_least, at_most, some_channel, all_channels}
+use Rattle.rules.specs.Halves.{Half, of_channel, full, below, above, at_least, at_most, some_channel, all_channels}
 use Rattle.rules.specs.Events.{begins_by, ends_by, in_event}
 use Rattle.rules.specs.Demands.{goes_on}
-use Rattle.rules.specs.Meanings.{Some, Every, percent, Begins, Ends, Keeps, Inside}
+use Rattle.rules.specs.Meanings.{SomeChannel, Every, percent, Begins, Ends, Keeps, Inside}
 use Rattle.rules.specs.declared.Settings.{Settings}
 use Rattle.rules.specs.declared.Sums.{Sums}
-use Rattle.rules.specs.declared.Half.{Half}
-use Rattle.rules.specs.declared.Half.TheVariants.{Unknown, Known}
 use Rattle.rules.specs.declared.Kind.{Kind}
 use Rattle.rules.specs.declared.Kind.TheVariants.{Sag, Interruption, Swell}
 use Rattle.rules.proofs.Booleans.{both, not_both, cases}
@@ -31,7 +30,7 @@ or_left : (a b : Bool) → a ≡ true → a || b ≡ true
 or_left a b h = rw h
 
 module _ (t : ℕ → Bool) (P : ℕ → Type 0) (says : (S : ℕ) → (t S ≡ true) ↔ P S) (v : Sums) where
-  some_to : (x y z : Bool) → t v.a ≡ x → t v.b ≡ y → t v.c ≡ z → x || y || z ≡ true → Some v P
+  some_to : (x y z : Bool) → t v.a ≡ x → t v.b ≡ y → t v.c ≡ z → x || y || z ≡ true → SomeChannel v P
   some_to true y z e f g h = (0, omega arith, (says v.a).0 e)
   some_to false true z e f g h = (1, omega arith, (says v.b).0 f)
   some_to false false z e f g h = (2, omega arith, (says v.c).0 (g ∙ h))
@@ -41,7 +40,7 @@ module _ (t : ℕ → Bool) (P : ℕ → Type 0) (says : (S : ℕ) → (t S ≡ 
   some-from (suc zero) l p = or_left (t v.a || t v.b) (t v.c) (or_right (t v.a) (t v.b) ((says v.b).1 p))
   some-from (suc (suc c)) l p = or_right (t v.a || t v.b) (t v.c) ((says v.c).1 p)
 
-  some_channel_lem : (some_channel t v ≡ true) ↔ Some v P
+  some_channel_lem : (some_channel t v ≡ true) ↔ SomeChannel v P
   some_channel_lem = (some_to (t v.a) (t v.b) (t v.c) refl refl refl, λ w. some-from w.0 w.1 w.2)
 
   every_to : all_channels t v ≡ true → (c : ℕ) → c < 3 → P (of_channel c v)
@@ -72,7 +71,7 @@ module _ (t : ℕ → Bool) (P : ℕ → Type 0) (says : (S : ℕ) → (t S ≡ 
   opposite : (S : ℕ) → (not (t S) ≡ true) ↔ P S
   opposite S = (λ h. (says S).0 (not-true (t S) h), λ p. rw ((says S).1 p))
 
-  some_fails : (all_channels t v ≡ false) ↔ Some v P
+  some_fails : (all_channels t v ≡ false) ↔ SomeChannel v P
   some_fails =
       Iff.trans (fails (all_channels t v) (some_channel (λ S. not (t S)) v) (not_all (t v.a) (t v.b) (t v.c)))
       (some_channel_lem (λ S. not (t S)) P opposite v)
@@ -152,18 +151,18 @@ not_at_once s Swell v b e =
 
 -- half-cycle x is in an event, where `inside` says it of the one before
 step : (s : Settings) (kind : Kind) (inside : Bool) (x : Half)
-    → (goes_on s kind inside x ≡ true) ↔ ((v : Sums) × (x ≡ Known v) × (Begins s kind v ⊎ ((inside ≡ true) × Keeps s kind v)))
-step s kind inside Unknown = (λ h. absurd (not_both false h refl), λ w. let z : ◌≡◌ {A = ℕ} 0 1 = cc w.1 in absurd (omega arith))
-step s kind inside (Known v) = (to (begins_by s kind v) inside (ends_by s kind v) refl refl refl, λ w. from w.0 w.1 w.2)
+    → (goes_on s kind inside x ≡ true) ↔ ((v : Sums) × (x ≡ Some v) × (Begins s kind v ⊎ ((inside ≡ true) × Keeps s kind v)))
+step s kind inside None = (λ h. absurd (not_both false h refl), λ w. let z : ◌≡◌ {A = ℕ} 0 1 = cc w.1 in absurd (omega arith))
+step s kind inside (Some v) = (to (begins_by s kind v) inside (ends_by s kind v) refl refl refl, λ w. from w.0 w.1 w.2)
   where
     to : (b i e : Bool) → begins_by s kind v ≡ b → inside ≡ i → ends_by s kind v ≡ e → b || (i && not e) ≡ true
-        → (w : Sums) × (Known v ≡ Known w) × (Begins s kind w ⊎ ((inside ≡ true) × Keeps s kind w))
+        → (w : Sums) × (Some v ≡ Some w) × (Begins s kind w ⊎ ((inside ≡ true) × Keeps s kind w))
     to true i e p q r h = (v, refl, inl ((begins_is s kind v).0 p))
     to false true false p q r h = (v, refl, inr (q, (keeps_is s kind v).0 r))
     to false true true p q r h = absurd (not_both false h refl)
     to false false e p q r h = absurd (not_both false h refl)
 
-    from : (w : Sums) → Known v ≡ Known w → Begins s kind w ⊎ ((inside ≡ true) × Keeps s kind w)
+    from : (w : Sums) → Some v ≡ Some w → Begins s kind w ⊎ ((inside ≡ true) × Keeps s kind w)
         → begins_by s kind v || (inside && not (ends_by s kind v)) ≡ true
     from w e f =
         let same : w ≡ v = cc in
@@ -178,7 +177,7 @@ step s kind inside (Known v) = (to (begins_by s kind v) inside (ends_by s kind v
 -- THE LAW: a half-cycle is in an event exactly if it is known and begins one, or the one before is in one and it keeps that going
 pub in_by_the_one_before : (s : Settings) (h : ℕ → Half) (kind : Kind) (k : ℕ)
     → (in_event s h kind k ≡ true)
-    ↔ ((v : Sums) × (h k ≡ Known v) × (Begins s kind v ⊎ ((before (in_event s h kind) k ≡ true) × Keeps s kind v)))
+    ↔ ((v : Sums) × (h k ≡ Some v) × (Begins s kind v ⊎ ((before (in_event s h kind) k ≡ true) × Keeps s kind v)))
 in_by_the_one_before s h kind k = rw (in_next s h kind k) (step s kind (before (in_event s h kind) k) (h k))
 
 module _ (s : Settings) (h : ℕ → Half) (kind : Kind) where
@@ -186,22 +185,22 @@ module _ (s : Settings) (h : ℕ → Half) (kind : Kind) where
   not_in : (k : ℕ) → (in_event s h kind k ≡ true → ⊥) → in_event s h kind k ≡ false
   not_in k f = ⊎_elim (λ e. absurd (f e)) (λ e. e) (cases (in_event s h kind k))
 
-  same_sums : (k : ℕ) (v w : Sums) → h k ≡ Known v → h k ≡ Known w → w ≡ v
+  same_sums : (k : ℕ) (v w : Sums) → h k ≡ Some v → h k ≡ Some w → w ≡ v
   same_sums k v w p q = cc
 
   -- a half-cycle that begins an event is in one, whatever went before
-  pub inside_where_it_begins : (k : ℕ) (v : Sums) → h k ≡ Known v → Begins s kind v → in_event s h kind k ≡ true
+  pub inside_where_it_begins : (k : ℕ) (v : Sums) → h k ≡ Some v → Begins s kind v → in_event s h kind k ≡ true
   inside_where_it_begins k v e b = (in_by_the_one_before s h kind k).1 (v, e, inl b)
 
   -- an event goes on while it is kept going
-  pub keeps_going : (k : ℕ) (v : Sums) → in_event s h kind k ≡ true → h (suc k) ≡ Known v → Keeps s kind v → in_event s h kind (suc k) ≡ true
+  pub keeps_going : (k : ℕ) (v : Sums) → in_event s h kind k ≡ true → h (suc k) ≡ Some v → Keeps s kind v → in_event s h kind (suc k) ≡ true
   keeps_going k v i e b = (in_by_the_one_before s h kind (suc k)).1 (v, e, inr (i, b))
 
   -- a half-cycle that ends an event is in none of its kind, whatever went before
-  pub outside_where_it_ends : (k : ℕ) (v : Sums) → h k ≡ Known v → Ends s kind v → in_event s h kind k ≡ false
+  pub outside_where_it_ends : (k : ℕ) (v : Sums) → h k ≡ Some v → Ends s kind v → in_event s h kind k ≡ false
   outside_where_it_ends k v e d = not_in k (λ i. no ((in_by_the_one_before s h kind k).0 i))
     where
-      no : (w : Sums) × (h k ≡ Known w) × (Begins s kind w ⊎ ((before (in_event s h kind) k ≡ true) × Keeps s kind w)) → ⊥
+      no : (w : Sums) × (h k ≡ Some w) × (Begins s kind w ⊎ ((before (in_event s h kind) k ≡ true) × Keeps s kind w)) → ⊥
       no w =
           let same = same_sums k v w.0 e w.1 in
           ⊎_elim
@@ -210,24 +209,24 @@ module _ (s : Settings) (h : ℕ → Half) (kind : Kind) where
           w.2
 
   -- outside an event only a half-cycle that begins one is in one
-  pub starts_only_by_beginning : (k : ℕ) (v : Sums) → before (in_event s h kind) k ≡ false → h k ≡ Known v → (in_event s h kind k ≡ true) ↔ Begins s kind v
+  pub starts_only_by_beginning : (k : ℕ) (v : Sums) → before (in_event s h kind) k ≡ false → h k ≡ Some v → (in_event s h kind k ≡ true) ↔ Begins s kind v
   starts_only_by_beginning k v o e = (λ i. only ((in_by_the_one_before s h kind k).0 i), inside_where_it_begins k v e)
     where
-      only : (w : Sums) × (h k ≡ Known w) × (Begins s kind w ⊎ ((before (in_event s h kind) k ≡ true) × Keeps s kind w)) → Begins s kind v
+      only : (w : Sums) × (h k ≡ Some w) × (Begins s kind w ⊎ ((before (in_event s h kind) k ≡ true) × Keeps s kind w)) → Begins s kind v
       only w =
           rw (← same_sums k v w.0 e w.1)
           (⊎_elim (λ b. b) (λ b. absurd (not_both (before (in_event s h kind) k) b.0 o)) w.2)
 
   -- an unknown half-cycle is in no event, and the one after it only in an event that it begins itself
-  pub unknown_in_none : (k : ℕ) → h k ≡ Unknown → in_event s h kind k ≡ false
+  pub unknown_in_none : (k : ℕ) → h k ≡ None → in_event s h kind k ≡ false
   unknown_in_none k e = in_next s h kind k ∙ rw e
 
-  pub after-unknown : (k : ℕ) (v : Sums) → h k ≡ Unknown → h (suc k) ≡ Known v → (in_event s h kind (suc k) ≡ true) ↔ Begins s kind v
+  pub after-unknown : (k : ℕ) (v : Sums) → h k ≡ None → h (suc k) ≡ Some v → (in_event s h kind (suc k) ≡ true) ↔ Begins s kind v
   after-unknown k v u e = starts_only_by_beginning (suc k) v (unknown_in_none k u) e
 
 -- with one channel at or above the interruption threshold, whatever the other two are, no interruption begins
-pub not_by_one : (s : Settings) (h : ℕ → Half) (k : ℕ) (v : Sums) → before (in_event s h Interruption) k ≡ false → h k ≡ Known v
-    → Some v (λ S. percent s s.interruption ≤ 10000 * S) → in_event s h Interruption k ≡ false
+pub not_by_one : (s : Settings) (h : ℕ → Half) (k : ℕ) (v : Sums) → before (in_event s h Interruption) k ≡ false → h k ≡ Some v
+    → SomeChannel v (λ S. percent s s.interruption ≤ 10000 * S) → in_event s h Interruption k ≡ false
 not_by_one s h k v o e w =
     not_in s h Interruption k (λ i. let b = (starts_only_by_beginning s h Interruption k v o e).0 i w.0 w.1 in omega (arith, w.2, b))
 

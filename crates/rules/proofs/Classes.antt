@@ -5,11 +5,10 @@ use mathlib.Core.Path.{◌≡◌, refl}
 use mathlib.Core.Bool.{Bool, true, false, not, ◌&&◌, ◌||◌}
 use native.Mathlib.Omega.{arith}
 use Rattle.rules.specs.Bounded.{bit, count}
-use Rattle.rules.specs.Halves.{known}
+use Rattle.rules.specs.Halves.{Half, known}
 use Rattle.rules.specs.Events.{in_event, starts, end_of, start_seen, end_seen}
 use Rattle.rules.specs.Site.{in_any, is_healthy, is_disturbed, is_unknown, is_placed, is_unplaced}
 use Rattle.rules.specs.declared.Settings.{Settings}
-use Rattle.rules.specs.declared.Half.{Half}
 use Rattle.rules.specs.declared.Kind.TheVariants.{Sag, Interruption, Swell}
 use Rattle.rules.proofs.Longest.{in_known}
 

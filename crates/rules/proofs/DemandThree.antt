@@ -1,9 +1,10 @@
 -- A fresh site table offered any recordings in any sequence, refused ones among them, holds what the definitions give of those that it
 -- took, each count by its own: what one recording adds is told of any field once, and a table that grew from a fresh one is never
 -- unsound. Assumes nothing.
+use Rattle.std.specs.Prelude.{Result, Ok, Err, ⊤}
 use Prim.Native.Nat.{ℕ, zero, suc, ◌+◌, ◌-◌, ◌*◌, ◌≤◌, ◌<◌}
 use mathlib.Core.Path.{◌≡◌, refl, sym, ap, subst, ◌∙◌}
-use mathlib.Core.Bool.{Bool, true, false, not, ◌&&◌, cond, false≢true}
+use mathlib.Core.Bool.{Bool, true, false, ◌&&◌, cond, false≢true}
 use mathlib.Core.List.{List, [], ◌∷◌}
 use mathlib.Core.Logic.{⊎_elim}
 use native.Mathlib.Nat.{mul-add, mul_assoc, mul_comm}
@@ -16,10 +17,10 @@ use lib.Seq.{ext_get_or}
 use Rattle.rules.specs.Bounded.{count, sum}
 use Rattle.rules.specs.Recorder.{bad_setting, settings_good}
 use Rattle.rules.specs.Halves.{of_channel, squares, half_at, halves_of, full, below}
-use Rattle.rules.specs.Events.{in_event, starts, end_of, start_seen, end_seen, seen_of, short_of, three}
+use Rattle.rules.specs.Events.{in_event, starts, end_of, start_seen, end_seen, seen_of, short_of}
 use Rattle.rules.specs.EventList.{event_from}
 use Rattle.rules.specs.Borders.{known_set, borders_of, cells_in}
-use Rattle.rules.specs.Scores.{reason_by}
+use Rattle.rules.specs.Scores.{reason_number, why_by, reason_by}
 use Rattle.rules.specs.Site.{cell_of, is_healthy, is_disturbed, is_unknown, is_placed, is_unplaced, sag_cell, sag_sum, sag_short, sag_shorts, cells_from, grown, cells, empty, zero_settings, total, most_halves, is_unsound}
 use Rattle.rules.specs.Refusals.{recording_check, settings_check, set_check, by_check, and_then, freshened, sound_check, full_check, add_check, added}
 use Rattle.rules.specs.Demands.{Scorable, offer, taken, admits, admitted, sum_over, placed_in, SumsUp}
@@ -28,34 +29,32 @@ use Rattle.rules.specs.declared.Kind.TheVariants.{Sag, Interruption, Swell}
 use Rattle.rules.specs.declared.Table.{Table}
 use Rattle.rules.specs.declared.Refusal.{Refusal}
 use Rattle.rules.specs.declared.Refusal.TheVariants.{Setting, Full, Unsound}
-use Rattle.rules.specs.declared.Taken.{Taken}
-use Rattle.rules.specs.declared.Taken.TheVariants.{Accepted, Refused}
 use Rattle.rules.proofs.Booleans.{both}
 use Rattle.rules.proofs.Borders.{unused-none, cells-make_up, set-cells}
 use Rattle.rules.proofs.Bounded.{count_le, sum_same}
 use Rattle.rules.proofs.Choices.{of_cond, lower}
 use Rattle.rules.proofs.Classes.{three-classes, placed_or_not}
-use Rattle.rules.proofs.DemandTwo.{short-high, event_passes, reason_of_lem, seen_both_lem}
+use Rattle.rules.proofs.DemandTwo.{short-high, event_passes, no_why, seen_both_lem}
 use Rattle.rules.proofs.Ranges.{good}
 use Rattle.rules.proofs.Samples.{accepted_recording, sum_le, goes_on_lem, both_accept}
 use Rattle.rules.proofs.Soundness.{sound-parts, sound_made}
 use Rattle.rules.proofs.Shortfall.{of_channels, parts_agree, total_made_up, shortfalls_agree}
 
 -- a refused recording changes nothing
-pub refused_same : (t : Table) (xs : List ℤ) (r : Refusal) → add_check t xs ≡ Refused r → (added t xs).table ≡ t
+pub refused_same : (t : Table) (xs : List ℤ) (r : Refusal) → add_check t xs ≡ Err r → (added t xs).table ≡ t
 unfolding added
 refused_same t xs r h = rw h
 
 -- ---- once for every fact and every field
 
-module _ (P : Table → Type 0) (keeps : (t : Table) (xs : List ℤ) → P t → add_check t xs ≡ Accepted → P (grown t xs)) where
+module _ (P : Table → Type 0) (keeps : (t : Table) (xs : List ℤ) → P t → add_check t xs ≡ Ok tt → P (grown t xs)) where
   added_keeps : (t : Table) (xs : List ℤ) → P t → P (added t xs).table
   unfolding added
   added_keeps t xs p = go (add_check t xs) refl
     where
-      go : (c : Taken) → add_check t xs ≡ c → P (by_check c (grown t xs) (λ r. t))
-      go Accepted h = keeps t xs p h
-      go (Refused r) h = p
+      go : (c : Result ⊤ Refusal) → add_check t xs ≡ c → P (by_check c (grown t xs) (λ r. t))
+      go (Ok _) h = keeps t xs p h
+      go (Err r) h = p
 
   -- a fact that an accepted recording keeps holds after all
   pub offer_keeps : (t : Table) (rs : List (List ℤ)) → P t → P (offer t rs)
@@ -70,9 +69,9 @@ module _ (P : Table → Type 0) (keeps : (t : Table) (xs : List ℤ) → P t →
     offer_adds t (xs ∷ rs) p =
         offer_adds (added t xs).table rs (added_keeps t xs p) ∙ go (add_check t xs)
       where
-        go : (c : Taken) → f (by_check c (grown t xs) (λ r. t)) + sum_over g (taken (added t xs).table rs) ≡ f t + sum_over g (by_check c (xs ∷ taken (added t xs).table rs) (λ r. taken (added t xs).table rs))
-        go Accepted = omega (arith, adds t xs p)
-        go (Refused r) = refl
+        go : (c : Result ⊤ Refusal) → f (by_check c (grown t xs) (λ r. t)) + sum_over g (taken (added t xs).table rs) ≡ f t + sum_over g (by_check c (xs ∷ taken (added t xs).table rs) (λ r. taken (added t xs).table rs))
+        go (Ok _) = omega (arith, adds t xs p)
+        go (Err r) = refl
 
 -- ---- cells
 
@@ -104,18 +103,18 @@ cells-sum g (c ∷ cs) i =
 -- what an accepting check says
 pub record AcceptedAdding (t : Table) (xs : List ℤ) : Type 0 where
   pub sound : is_unsound t ≡ false
-  pub recording : recording_check t.settings xs ≡ Accepted
+  pub recording : recording_check t.settings xs ≡ Ok tt
   pub fits : t.total + halves_of t.settings xs ≤ most_halves
 
-pub accepted_adding : (t : Table) (xs : List ℤ) → add_check t xs ≡ Accepted → AcceptedAdding t xs
+pub accepted_adding : (t : Table) (xs : List ℤ) → add_check t xs ≡ Ok tt → AcceptedAdding t xs
 unfolding add_check sound_check full_check
 accepted_adding t xs h =
     let p = both_accept (sound_check t) (and_then (recording_check t.settings xs) (full_check t xs)) h in
     let q = both_accept (recording_check t.settings xs) (full_check t xs) p.1 in
     record {
-      sound = (goes_on_lem (is_unsound t) Unsound Accepted p.0).0;
+      sound = (goes_on_lem (is_unsound t) Unsound (Ok tt) p.0).0;
       recording = q.0;
-      fits = ltb-false most_halves (t.total + halves_of t.settings xs) (goes_on_lem (ltb most_halves (t.total + halves_of t.settings xs)) (Full (most_halves - t.total)) Accepted q.1).0;
+      fits = ltb-false most_halves (t.total + halves_of t.settings xs) (goes_on_lem (ltb most_halves (t.total + halves_of t.settings xs)) (Full (most_halves - t.total)) (Ok tt) q.1).0;
     }
 
 -- each half-cycle adds at most N x R x R to a channel
@@ -129,10 +128,10 @@ sag_short-high s xs c =
     short k = short_of s (squares s xs k c)
 
 -- the cell of a placed sag is that of its event in the list, by any known set
-pub placed-cell : (s : Settings) (set : ℕ) (xs : List ℤ) → settings_good s ≡ true → known_set set ≡ true → recording_check s xs ≡ Accepted
+pub placed-cell : (s : Settings) (set : ℕ) (xs : List ℤ) → settings_good s ≡ true → known_set set ≡ true → recording_check s xs ≡ Ok tt
     → (k : ℕ) → is_placed s (half_at s xs) (halves_of s xs) k ≡ true
     → cell_of s set (event_from s xs Sag k) ≡ sag_cell s (borders_of s set) (half_at s xs) (halves_of s xs) k
-unfolding is_placed cell_of sag_cell event_from reason_by
+unfolding is_placed cell_of sag_cell event_from reason_by why_by
 placed-cell s set xs g known ok k h =
     let b = end_of s (half_at s xs) (halves_of s xs) Sag k in
     let p = both (starts s (half_at s xs) Sag k) (start_seen (half_at s xs) k && end_seen (half_at s xs) b) h in
@@ -143,7 +142,7 @@ placed-cell s set xs g known ok k h =
       sag = refl;
       seen = eqb-true (seen_of (half_at s xs) k b) 3 (seen_both_lem (half_at s xs) k b ∙ p.1);
     } in
-    rw (known, reason_of_lem s (event_from s xs Sag k) scorable)
+    rw (known, ap reason_number (no_why s (event_from s xs Sag k) scorable))
 
 module _ (t : Table) (xs : List ℤ) (forty : length t.cells ≡ cells) where
   cell-grown : (i : ℕ) → i < cells
@@ -173,7 +172,7 @@ module _ (t : Table) (xs : List ℤ) (forty : length t.cells ≡ cells) where
       omega (arith, cell-grown i u, none i l u, unused-none s (borders_of s t.set) (half_at s xs) (halves_of s xs) (halves_of s xs) i l)
 
 -- THE LAW: what is sound and takes a recording is sound after it
-pub grown-sound : (t : Table) (xs : List ℤ) → length t.cells ≡ cells → add_check t xs ≡ Accepted → is_unsound (grown t xs) ≡ false
+pub grown-sound : (t : Table) (xs : List ℤ) → length t.cells ≡ cells → add_check t xs ≡ Ok tt → is_unsound (grown t xs) ≡ false
 unfolding grown
 grown-sound t xs forty ok =
     let s = t.settings in
@@ -199,7 +198,7 @@ grown-sound t xs forty ok =
 -- ---- a fresh table
 
 pub fresh-good : (s : Settings) (set : ℕ) → settings_good s ≡ true → known_set set ≡ true
-    → ((freshened s set).answer ≡ Accepted) × ((freshened s set).table ≡ empty s set)
+    → ((freshened s set).answer ≡ Ok tt) × ((freshened s set).table ≡ empty s set)
 unfolding freshened settings_check set_check
 fresh-good s set g k = (rw (g, k), rw (g, k))
 
@@ -222,13 +221,13 @@ empty-sound s set g k =
 
 -- THE LAW: a making is refused exactly if a setting is bad, which is told first, or the set is unknown: refusal 1, place 8
 pub fresh-refused : (s : Settings) (set : ℕ)
-    → (freshened s set).answer ≡ cond (settings_good s) (cond (known_set set) Accepted (Refused (Setting 8))) (Refused (Setting (bad_setting s)))
+    → (freshened s set).answer ≡ cond (settings_good s) (cond (known_set set) (Ok tt) (Err (Setting 8))) (Err (Setting (bad_setting s)))
 unfolding freshened settings_check set_check
 fresh-refused s set = go (settings_good s)
   where
     go : (a : Bool)
-        → and_then (cond a Accepted (Refused (Setting (bad_setting s)))) (cond (known_set set) Accepted (Refused (Setting 8)))
-        ≡ cond a (cond (known_set set) Accepted (Refused (Setting 8))) (Refused (Setting (bad_setting s)))
+        → and_then (cond a (Ok tt) (Err (Setting (bad_setting s)))) (cond (known_set set) (Ok tt) (Err (Setting 8)))
+        ≡ cond a (cond (known_set set) (Ok tt) (Err (Setting 8))) (Err (Setting (bad_setting s)))
     go true = refl
     go false = refl
 
@@ -238,7 +237,7 @@ unfolding freshened settings_check set_check
 fresh_zeros s set g = go (settings_good s) (known_set set) g
   where
     go : (a k : Bool) → a && k ≡ false
-        → by_check (and_then (cond a Accepted (Refused (Setting (bad_setting s)))) (cond k Accepted (Refused (Setting 8)))) (empty s set) (λ r. empty zero_settings 0)
+        → by_check (and_then (cond a (Ok tt) (Err (Setting (bad_setting s)))) (cond k (Ok tt) (Err (Setting 8)))) (empty s set) (λ r. empty zero_settings 0)
         ≡ empty zero_settings 0
     go true true h = absurd (false≢true (sym h))
     go true false h = refl
@@ -268,7 +267,7 @@ still_forty : (t : Table) (xs : List ℤ) → length (grown t xs).cells ≡ leng
 unfolding grown
 still_forty t xs = cells-length (placed_in t.settings (borders_of t.settings t.set) xs) t.cells 0
 
-pub grown_keeps : (s : Settings) (set : ℕ) (t : Table) (xs : List ℤ) → Grown s set t → add_check t xs ≡ Accepted → Grown s set (grown t xs)
+pub grown_keeps : (s : Settings) (set : ℕ) (t : Table) (xs : List ℤ) → Grown s set t → add_check t xs ≡ Ok tt → Grown s set (grown t xs)
 grown_keeps s set t xs r ok =
     record {
       settings = settings_same t xs ∙ r.settings;
@@ -296,12 +295,12 @@ module _ (s : Settings) (set : ℕ) where
   taken_is t (xs ∷ rs) r =
       rw (← (check_is t xs r)) (go (add_check t xs) refl (λ h. taken_is (grown t xs) rs (grown_keeps s set t xs r h)) (taken_is t rs r))
     where
-      go : (c : Taken) → add_check t xs ≡ c
-          → (add_check t xs ≡ Accepted → taken (grown t xs) rs ≡ admitted s (grown t xs).total rs) → taken t rs ≡ admitted s t.total rs
+      go : (c : Result ⊤ Refusal) → add_check t xs ≡ c
+          → (add_check t xs ≡ Ok tt → taken (grown t xs) rs ≡ admitted s (grown t xs).total rs) → taken t rs ≡ admitted s t.total rs
           → by_check c (xs ∷ taken (by_check c (grown t xs) (λ r. t)) rs) (λ q. taken (by_check c (grown t xs) (λ r. t)) rs)
           ≡ by_check c (xs ∷ admitted s (t.total + halves_of s xs) rs) (λ q. admitted s t.total rs)
-      go Accepted h more same = ap (λ l. xs ∷ l) (more h ∙ rw (total-grown t xs r))
-      go (Refused q) h more same = same
+      go (Ok _) h more same = ap (λ l. xs ∷ l) (more h ∙ rw (total-grown t xs r))
+      go (Err q) h more same = same
 
 -- ---- bad settings or an unknown set: the table that a refused making hands back takes nothing, ever
 

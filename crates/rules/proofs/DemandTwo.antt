@@ -1,6 +1,7 @@
 -- The list holds exactly the events that the rules define, each passes the test of an event, and so a sag of the list with both ends seen
 -- has its score, and nothing else has one. That it is in order and holds no event twice is `in_order` and `no_event_twice` of Order.
 -- Assumes nothing.
+use Rattle.std.specs.Prelude.{Option, Ok, Err, Some, None}
 use Prim.Native.Nat.{ℕ, zero, suc, ◌+◌, ◌-◌, ◌*◌, ◌≤◌, ◌<◌, min}
 use mathlib.Core.Path.{◌≡◌, refl, sym, ap, ◌∙◌}
 use mathlib.Core.Bool.{Bool, true, false, not, ◌&&◌, ◌||◌, cond}
@@ -8,29 +9,27 @@ use mathlib.Core.List.{List, Memᴰ}
 use mathlib.Core.Logic.{◌↔◌, ⊎_elim}
 use native.Mathlib.Nat.{mul-suc}
 use native.Mathlib.Omega.{arith}
-use borrow.Author.Tests.{lt-ltb, le-ltb, ltb-true, le-leb, eq-eqb, eqb-true, ne_eqb, eqb-false, not-true}
+use borrow.Author.Tests.{lt-ltb, le-ltb, ltb-true, le-leb, eq-eqb, ne_eqb, eqb-false, not-true}
 use lib.Dec.{ltb, eqb}
 use lib.IntN.{ℤ}
 use Rattle.rules.specs.Bounded.{bit, before}
 use Rattle.rules.specs.Recorder.{within, settings_good}
-use Rattle.rules.specs.Halves.{half_at, halves_of, known, full, below, some_channel}
+use Rattle.rules.specs.Halves.{Half, half_at, halves_of, known, full, below, some_channel}
 use Rattle.rules.specs.Events.{begins, ends, in_event, is_run, starts, end_of, start_seen, end_seen, seen_of, least, level_by, level, worse, worst, extreme_of, earliest, retained_of, short_of, shorts, sum_from, shorts_of, three, six_sums, type_of}
 use Rattle.rules.specs.EventList.{kind_number, event_from, events_of}
-use Rattle.rules.specs.Scores.{in_bounds, is_sag, sag_good, other_good, is_event, unseen_of, reason_of, reason_by, score_of, scoring, scoring_by}
+use Rattle.rules.specs.Scores.{in_bounds, is_sag, sag_good, other_good, is_event, number_of_reason, reason_number, unseen_of, why_of, why_by, reason_of, reason_by, score_of, given_unless, scoring, scoring_by}
 use Rattle.rules.specs.Borders.{known_set}
 use Rattle.rules.specs.Site.{cell_of}
 use Rattle.rules.specs.Refusals.{recording_check}
 use Rattle.rules.specs.Demands.{Good, AcceptedRecording, Scorable}
 use Rattle.rules.specs.declared.Settings.{Settings}
 use Rattle.rules.specs.declared.Sums.{Sums}
-use Rattle.rules.specs.declared.Half.{Half}
-use Rattle.rules.specs.declared.Half.TheVariants.{Unknown, Known}
 use Rattle.rules.specs.declared.Kind.{Kind}
 use Rattle.rules.specs.declared.Kind.TheVariants.{Sag, Interruption, Swell}
 use Rattle.rules.specs.declared.Event.{Event}
 use Rattle.rules.specs.declared.Score.{Score}
-use Rattle.rules.specs.declared.Scoring.TheVariants.{Scored, Unscored}
-use Rattle.rules.specs.declared.Taken.TheVariants.{Accepted}
+use Rattle.rules.specs.declared.Reason.{Reason}
+use Rattle.rules.specs.declared.Reason.TheVariants.{StartUnseen, EndUnseen, BothUnseen, NotASag, BadSettings}
 use Rattle.rules.proofs.Booleans.{both, not_both, bit_le}
 use Rattle.rules.proofs.Choices.{of_cond, lower}
 use Rattle.rules.proofs.Longest.{starts-run, run-starts, starts_before_end, start_high, end_high, half_past}
@@ -38,7 +37,7 @@ use Rattle.rules.proofs.Order.{in_list, end_is}
 use Rattle.rules.proofs.Ranges.{good}
 use Rattle.rules.proofs.Runs.{in_next}
 use Rattle.rules.proofs.Samples.{accepted_recording, sums-low, length_six, type_high}
-use Rattle.rules.proofs.Scorable.{event_bounds, unseen_is, scorable}
+use Rattle.rules.proofs.Scorable.{scorable}
 use Rattle.rules.proofs.Shortfall.{three-channels, event_made_up}
 
 -- ---- the list holds the longest unbroken runs of each kind
@@ -75,9 +74,9 @@ level_by-high Sag v b h = omega arith
 level_by-high Interruption v b h = omega arith
 level_by-high Swell v b h = omega arith
 
-level-high : (kind : Kind) (x : Half) (b : ℕ) → ((v : Sums) → x ≡ Known v → (v.a ≤ b) × (v.b ≤ b) × (v.c ≤ b)) → level kind x ≤ b
-level-high kind Unknown b h = omega arith
-level-high kind (Known v) b h = level_by-high kind v b (h v refl)
+level-high : (kind : Kind) (x : Half) (b : ℕ) → ((v : Sums) → x ≡ Some v → (v.a ≤ b) × (v.b ≤ b) × (v.c ≤ b)) → level kind x ≤ b
+level-high kind None b h = omega arith
+level-high kind (Some v) b h = level_by-high kind v b (h v refl)
 
 pub extreme-high : (s : Settings) (xs : List ℤ) → Good s → AcceptedRecording s xs → (kind : Kind) (a e : ℕ)
     → extreme_of (half_at s xs) kind a e ≤ s.n * 10000000000
@@ -123,8 +122,8 @@ start_begins s h kind a e =
     go false b i d h f = absurd (not_both false h refl)
 
 level-below : (s : Settings) (x : Half) → begins s Sag x ≡ true → below s s.sag (level Sag x) ≡ true
-level-below s Unknown h = absurd (not_both false h refl)
-level-below s (Known v) h = least-below s s.sag v h
+level-below s None h = absurd (not_both false h refl)
+level-below s (Some v) h = least-below s s.sag v h
 
 pub sag-extreme-below : (s : Settings) (h : ℕ → Half) (a e : ℕ) → starts s h Sag a ≡ true → below s s.sag (extreme_of h Sag a e) ≡ true
 unfolding extreme_of
@@ -140,8 +139,8 @@ short-high true full x = omega arith
 short-high false full x = omega arith
 
 pub shorts-high : (s : Settings) (x : Half) → three (shorts s x) ≤ 3 * full s
-shorts-high s Unknown = omega arith
-shorts-high s (Known v) = omega (arith, high v.a, high v.b, high v.c)
+shorts-high s None = omega arith
+shorts-high s (Some v) = omega (arith, high v.a, high v.b, high v.c)
   where
     high : (x : ℕ) → short_of s x ≤ full s
     high x = short-high (below s s.sag x) (full s) x
@@ -222,31 +221,38 @@ module _ (s : Settings) (xs : List ℤ) (g : Good s) (ok : AcceptedRecording s x
 -- ---- what has a score
 
 module _ (s : Settings) (e : Event) where
+  pub no_why : Scorable s e → why_of s e ≡ None
+  unfolding why_of
+  no_why r = rw (r.settings, r.event, r.sag, r.seen)
+
   pub reason_of_lem : Scorable s e → reason_of s e ≡ 0
   unfolding reason_of
-  reason_of_lem r = rw (r.settings, r.event, r.sag, r.seen)
+  reason_of_lem r = ap reason_number (no_why r)
 
   -- a score is given only to such, and is that of `score_of`
-  pub scored-only : (x : Score) → scoring s e ≡ Scored x → Scorable s e × (x ≡ score_of s e)
-  unfolding scoring
+  pub scored-only : (x : Score) → scoring s e ≡ Ok x → Scorable s e × (x ≡ score_of s e)
+  unfolding scoring reason_of
   scored-only x h =
-      let r = go (eqb (reason_of s e) 0) h in (scorable s e (eqb-true (reason_of s e) 0 r.0), r.1)
+      let r = go (why_of s e) h in (scorable s e r.0, r.1)
     where
-      go : (b : Bool) → cond b (Scored (score_of s e)) (Unscored (reason_of s e)) ≡ Scored x → (b ≡ true) × (x ≡ score_of s e)
-      go true h = (refl, cc)
-      go false h = let z : ◌≡◌ {A = ℕ} 0 1 = cc in absurd (omega arith)
+      go : (w : Option Reason) → given_unless w (score_of s e) ≡ Ok x → (reason_number w ≡ 0) × (x ≡ score_of s e)
+      go None h = (refl, cc)
+      go (Some r) h = let z : ◌≡◌ {A = ℕ} 0 1 = cc in absurd (omega arith)
 
   -- and to all such
-  pub scorable_scored : Scorable s e → scoring s e ≡ Scored (score_of s e)
+  pub scorable_scored : Scorable s e → scoring s e ≡ Ok (score_of s e)
   unfolding scoring
-  scorable_scored r = rw (reason_of_lem r)
+  scorable_scored r = rw (no_why r)
 
   -- THE LAW: an event with an unseen start or end never has a score, whatever its other words
-  pub unseen_no_score : (e.seen ≡ 3 → ⊥) → (k : ℕ) × (k ≡ 0 → ⊥) × (scoring s e ≡ Unscored k)
-  unfolding scoring
-  unseen_no_score h =
-      let reason : reason_of s e ≡ 0 → ⊥ = λ q. h (scorable s e q).seen in
-      (reason_of s e, reason, rw (ne_eqb (reason_of s e) 0 reason))
+  pub unseen_no_score : (e.seen ≡ 3 → ⊥) → (r : Reason) × (reason_of s e ≡ number_of_reason r) × (scoring s e ≡ Err r)
+  unfolding scoring reason_of
+  unseen_no_score h = go (why_of s e) (λ q. h (scorable s e q).seen)
+    where
+      go : (w : Option Reason) → (reason_number w ≡ 0 → ⊥)
+          → (r : Reason) × (reason_number w ≡ number_of_reason r) × (given_unless w (score_of s e) ≡ Err r)
+      go None some = absurd (some refl)
+      go (Some r) some = (r, refl, refl)
 
 -- seen is 3 exactly if the start and the end are seen
 pub seen_both_lem : (h : ℕ → Half) (a b : ℕ) → eqb (seen_of h a b) 3 ≡ start_seen h a && end_seen h b
@@ -262,7 +268,7 @@ seen_both_lem h a b = go (start_seen h a) (end_seen h b)
 -- so in the words of the half-cycles on both sides
 pub unseen_start_or_end : (s : Settings) (xs : List ℤ) (kind : Kind) (a : ℕ)
     → start_seen (half_at s xs) a && end_seen (half_at s xs) (end_of s (half_at s xs) (halves_of s xs) kind a) ≡ false
-    → (k : ℕ) × (k ≡ 0 → ⊥) × (scoring s (event_from s xs kind a) ≡ Unscored k)
+    → (r : Reason) × (reason_of s (event_from s xs kind a) ≡ number_of_reason r) × (scoring s (event_from s xs kind a) ≡ Err r)
 unfolding event_from
 unseen_start_or_end s xs kind a h =
     let b = end_of s (half_at s xs) (halves_of s xs) kind a in
@@ -270,24 +276,25 @@ unseen_start_or_end s xs kind a h =
 
 -- ---- events of the list
 
-module _ (s : Settings) (xs : List ℤ) (g : settings_good s ≡ true) (ok : recording_check s xs ≡ Accepted) (e : Event) (m : Memᴰ e (events_of s xs)) where
+module _ (s : Settings) (xs : List ℤ) (g : settings_good s ≡ true) (ok : recording_check s xs ≡ Ok tt) (e : Event) (m : Memᴰ e (events_of s xs)) where
   pub every_event_passes : is_event s e ≡ true
   every_event_passes = let r = (in_list s xs e).0 m in rw r.4 (event_passes s xs (good s g) (accepted_recording s xs ok) r.0 r.1 r.3)
 
   -- THE LAW: a sag of the list with both ends seen has exactly its score
-  pub seen-sag-scored : is_sag e ≡ true → e.seen ≡ 3 → scoring s e ≡ Scored (score_of s e)
+  pub seen-sag-scored : is_sag e ≡ true → e.seen ≡ 3 → scoring s e ≡ Ok (score_of s e)
   seen-sag-scored sag seen = scorable_scored s e record { settings = g; event = every_event_passes; sag = sag; seen = seen }
 
   -- a sag with an unseen start or end has the reason of what is unseen
-  pub unseen_sag_reason : is_sag e ≡ true → (e.seen ≡ 3 → ⊥) → scoring s e ≡ Unscored (unseen_of e.seen)
-  unfolding scoring reason_of
+  pub unseen_sag_reason : is_sag e ≡ true → (e.seen ≡ 3 → ⊥) → (r : Reason) × (unseen_of e.seen ≡ Some r) × (scoring s e ≡ Err r)
+  unfolding scoring why_of
   unseen_sag_reason sag h =
-      let high = (event_bounds s e every_event_passes).seen in
-      rw (g, every_event_passes, sag, ne_eqb (unseen_of e.seen) 0 (λ q. h (omega (arith, high, unseen_is e.seen high, q))))
+      let r = cond (eqb e.seen 2) StartUnseen (cond (eqb e.seen 1) EndUnseen BothUnseen) in
+      let unseen = ne_eqb e.seen 3 h in
+      (r, rw unseen, rw (g, every_event_passes, sag, unseen))
 
   -- another kind has the reason "not a sag"
-  pub other_no_score : is_sag e ≡ false → scoring s e ≡ Unscored 4
-  unfolding scoring reason_of
+  pub other_no_score : is_sag e ≡ false → scoring s e ≡ Err NotASag
+  unfolding scoring why_of
   other_no_score other = rw (g, every_event_passes, other)
 
 -- ---- as a host is told that hands over a set of borders
@@ -295,29 +302,24 @@ module _ (s : Settings) (xs : List ℤ) (g : settings_good s ≡ true) (ok : rec
 module _ (s : Settings) (set : ℕ) (e : Event) where
   -- THE LAW: under a known set all is as without one; an unknown one is reason 6, no score, and cell 40
   pub under-known_set : known_set set ≡ true → (reason_by s set e ≡ reason_of s e) × (scoring_by s set e ≡ scoring s e)
-  unfolding reason_by scoring_by
+  unfolding reason_by reason_of why_by scoring_by scoring
   under-known_set k = (rw k, rw k)
 
-  pub under-unknown-set : known_set set ≡ false → (reason_by s set e ≡ 6) × (scoring_by s set e ≡ Unscored 6) × (cell_of s set e ≡ 40)
-  unfolding reason_by scoring_by cell_of
+  pub under-unknown-set : known_set set ≡ false → (reason_by s set e ≡ 6) × (scoring_by s set e ≡ Err BadSettings) × (cell_of s set e ≡ 40)
+  unfolding reason_by why_by scoring_by cell_of
   under-unknown-set k = (rw k, rw k, rw k)
 
   -- what has no reason against it has a known set
   pub no_reason : reason_by s set e ≡ 0 → (known_set set ≡ true) × (reason_of s e ≡ 0)
-  unfolding reason_by
+  unfolding reason_by reason_of why_by
   no_reason h = go (known_set set) refl h
     where
-      go : (k : Bool) → known_set set ≡ k → cond k (reason_of s e) 6 ≡ 0 → (known_set set ≡ true) × (reason_of s e ≡ 0)
+      go : (k : Bool) → known_set set ≡ k → reason_number (cond k (why_of s e) (Some BadSettings)) ≡ 0
+          → (known_set set ≡ true) × (reason_number (why_of s e) ≡ 0)
       go true k q = (k, q)
       go false k q = absurd (omega arith)
 
   -- the reason decides
-  pub by_reason : scoring_by s set e ≡ cond (eqb (reason_by s set e) 0) (Scored (score_of s e)) (Unscored (reason_by s set e))
-  unfolding reason_by scoring_by scoring
-  by_reason = go (known_set set)
-    where
-      go : (k : Bool)
-          → cond k (cond (eqb (reason_of s e) 0) (Scored (score_of s e)) (Unscored (reason_of s e))) (Unscored 6)
-          ≡ cond (eqb (cond k (reason_of s e) 6) 0) (Scored (score_of s e)) (Unscored (cond k (reason_of s e) 6))
-      go true = refl
-      go false = refl
+  pub by_reason : scoring_by s set e ≡ given_unless (why_by s set e) (score_of s e)
+  unfolding scoring_by
+  by_reason = refl

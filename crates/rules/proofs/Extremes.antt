@@ -1,5 +1,6 @@
 -- The extreme of an event is the worst S of its half-cycles and channels, and its earliest half-cycle is the first at which that
 -- occurs. Stated once over the kind, of any half-cycles that are known, and so of an event of a recording. Assumes nothing.
+use Rattle.std.specs.Prelude.{Some}
 use Prim.Native.Nat.{ℕ, zero, suc, ◌+◌, ◌-◌, ◌*◌, ◌/◌, ◌≤◌, ◌<◌}
 use mathlib.Core.Path.{◌≡◌, refl, sym, ◌∙◌}
 use mathlib.Core.Bool.{Bool, true, false, not}
@@ -13,14 +14,12 @@ use lib.IntN.{ℤ, pos, negsuc, ◌*ℤ◌}
 use lib.ListN.{get_or}
 use Rattle.rules.specs.Bounded.{any, sum, first_not}
 use Rattle.rules.specs.Recorder.{missing}
-use Rattle.rules.specs.Halves.{of_channel, channels, half_at, halves_of, any_missing, sums_at, squares, square, known}
+use Rattle.rules.specs.Halves.{Half, of_channel, channels, half_at, halves_of, any_missing, sums_at, squares, square, known}
 use Rattle.rules.specs.Events.{starts, end_of, level_by, level, worse, worst, extreme_of, earliest, six_sums, type_of}
 use Rattle.rules.specs.EventList.{event_from}
-use Rattle.rules.specs.Meanings.{Some, Every, AsBad, IsExtreme, IsEarliest}
+use Rattle.rules.specs.Meanings.{SomeChannel, Every, AsBad, IsExtreme, IsEarliest}
 use Rattle.rules.specs.declared.Settings.{Settings}
 use Rattle.rules.specs.declared.Sums.{Sums}
-use Rattle.rules.specs.declared.Half.{Half}
-use Rattle.rules.specs.declared.Half.TheVariants.{Known}
 use Rattle.rules.specs.declared.Kind.{Kind}
 use Rattle.rules.specs.declared.Kind.TheVariants.{Sag, Interruption, Swell}
 use Rattle.rules.proofs.Booleans.{not_both, cases}
@@ -81,7 +80,7 @@ level_bounds kind v (suc zero) l =
     (worse_first kind (worse kind v.a v.b) v.c) (worse_second kind v.a v.b))
 level_bounds kind v (suc (suc c)) l = rw (level-worse kind v) (worse_second kind (worse kind v.a v.b) v.c)
 
-level_occurs : (kind : Kind) (v : Sums) → Some v (λ S. S ≡ level_by kind v)
+level_occurs : (kind : Kind) (v : Sums) → SomeChannel v (λ S. S ≡ level_by kind v)
 level_occurs kind v =
     rw (level-worse kind v)
     (⊎_elim
@@ -144,7 +143,7 @@ earliest-only v a b x k m p q = le_antisymm (at k m p q) (at m k q p)
 
 -- ---- of half-cycles that are all known
 
-module _ (h : ℕ → Half) (v : ℕ → Sums) (kind : Kind) (a b : ℕ) (some : a < b) (all_Known : (k : ℕ) → a ≤ k → k < b → h k ≡ Known (v k)) where
+module _ (h : ℕ → Half) (v : ℕ → Sums) (kind : Kind) (a b : ℕ) (some : a < b) (all_Known : (k : ℕ) → a ≤ k → k < b → h k ≡ Some (v k)) where
   level_is : (k : ℕ) → a ≤ k → k < b → level kind (h k) ≡ level_by kind (v k)
   level_is k l u = rw (all_Known k l u)
 
@@ -164,10 +163,10 @@ module _ (h : ℕ → Half) (v : ℕ → Sums) (kind : Kind) (a b : ℕ) (some :
   extreme_is x = (λ e. rw e at is_extreme, λ p. extreme-only kind v a b (extreme_of h kind a b) x is_extreme p)
 
   -- the extreme occurs where the half-cycle's level is the extreme, and only there
-  occurs : (k : ℕ) → a ≤ k → k < b → level kind (h k) ≡ extreme_of h kind a b → Some (v k) (λ S. S ≡ extreme_of h kind a b)
+  occurs : (k : ℕ) → a ≤ k → k < b → level kind (h k) ≡ extreme_of h kind a b → SomeChannel (v k) (λ S. S ≡ extreme_of h kind a b)
   occurs k l u e = let o = level_occurs kind (v k) in (o.0, o.1, o.2 ∙ sym (level_is k l u) ∙ e)
 
-  occurs_only : (k : ℕ) → a ≤ k → k < b → Some (v k) (λ S. S ≡ extreme_of h kind a b) → level kind (h k) ≡ extreme_of h kind a b
+  occurs_only : (k : ℕ) → a ≤ k → k < b → SomeChannel (v k) (λ S. S ≡ extreme_of h kind a b) → level kind (h k) ≡ extreme_of h kind a b
   occurs_only k l u o =
       let t = level_occurs kind (v k) in
       level_is k l u
@@ -179,11 +178,11 @@ module _ (h : ℕ → Half) (v : ℕ → Sums) (kind : Kind) (a b : ℕ) (some :
   passes : ℕ → Bool
   passes k = not (eqb (level kind (h k)) (extreme_of h kind a b))
 
-  occurs_stops : (k : ℕ) → a ≤ k → k < b → Some (v k) (λ S. S ≡ extreme_of h kind a b) → passes k ≡ false
+  occurs_stops : (k : ℕ) → a ≤ k → k < b → SomeChannel (v k) (λ S. S ≡ extreme_of h kind a b) → passes k ≡ false
   unfolding passes
   occurs_stops k l u o = rw (eq-eqb (level kind (h k)) (extreme_of h kind a b) (occurs_only k l u o))
 
-  stops_occurs : (k : ℕ) → a ≤ k → k < b → passes k ≡ false → Some (v k) (λ S. S ≡ extreme_of h kind a b)
+  stops_occurs : (k : ℕ) → a ≤ k → k < b → passes k ≡ false → SomeChannel (v k) (λ S. S ≡ extreme_of h kind a b)
   unfolding passes
   stops_occurs k l u e = occurs k l u (eqb-true (level kind (h k)) (extreme_of h kind a b) (not-false _ e))
 
@@ -268,7 +267,7 @@ module _ (s : Settings) (xs : List ℤ) (kind : Kind) (a : ℕ) (begun : starts 
   end : ℕ
   end = end_of s (half_at s xs) (halves_of s xs) kind a
 
-  event-known : (k : ℕ) → a ≤ k → k < end → half_at s xs k ≡ Known (sums_at s xs k)
+  event-known : (k : ℕ) → a ≤ k → k < end → half_at s xs k ≡ Some (sums_at s xs k)
   unfolding end
   event-known k l u =
       known_is s xs k (in_known s (half_at s xs) kind k (unbroken s (half_at s xs) (halves_of s xs) (half_past s xs) kind a begun k l u))

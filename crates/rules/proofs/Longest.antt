@@ -1,6 +1,7 @@
 -- An event is a longest unbroken run. The walk `first_not` is told by its bounds and by what it passes; with a bound past which the
 -- test refuses, the run that starts at a number is the one that `starts` and `end_of` name, and there is no other. Stated over any
 -- test, then for every kind. Assumes nothing.
+use Rattle.std.specs.Prelude.{None}
 use Prim.Native.Nat.{ℕ, zero, suc, ◌+◌, ◌-◌, ◌≤◌, ◌<◌}
 use mathlib.Core.Path.{◌≡◌, sym, ◌∙◌}
 use mathlib.Core.Bool.{Bool, true, false, not, ◌&&◌, ◌||◌}
@@ -12,11 +13,9 @@ use lib.Dec.{ltb}
 use Rattle.rules.specs.Bounded.{all, before, first_not}
 use mathlib.Core.List.{List}
 use lib.IntN.{ℤ}
-use Rattle.rules.specs.Halves.{known, half_at, halves_of}
+use Rattle.rules.specs.Halves.{Half, known, half_at, halves_of}
 use Rattle.rules.specs.Events.{in_event, is_run, starts, end_of}
 use Rattle.rules.specs.declared.Settings.{Settings}
-use Rattle.rules.specs.declared.Half.{Half}
-use Rattle.rules.specs.declared.Half.TheVariants.{Unknown}
 use Rattle.rules.specs.declared.Kind.{Kind}
 use Rattle.rules.proofs.Booleans.{both, not_both}
 use Rattle.rules.proofs.Bounded.{all-at, all_true}
@@ -141,7 +140,7 @@ runs_apart p a b c d h k l =
 pub in_known : (s : Settings) (h : ℕ → Half) (kind : Kind) (k : ℕ) → in_event s h kind k ≡ true → known (h k) ≡ true
 in_known s h kind k e = (both (known (h k)) _ (sym (in_next s h kind k) ∙ e)).0
 
-module _ (s : Settings) (h : ℕ → Half) (n : ℕ) (past : (k : ℕ) → n ≤ k → h k ≡ Unknown) (kind : Kind) where
+module _ (s : Settings) (h : ℕ → Half) (n : ℕ) (past : (k : ℕ) → n ≤ k → h k ≡ None) (kind : Kind) where
   -- nothing past the end is in an event
   pub in_past : (k : ℕ) → n ≤ k → in_event s h kind k ≡ false
   in_past k l = in_next s h kind k ∙ rw (past k l)
@@ -189,6 +188,6 @@ module _ (s : Settings) (h : ℕ → Half) (n : ℕ) (past : (k : ℕ) → n ≤
       runs_apart (in_event s h kind) a (end_of s h n kind a) b (end_of s h n kind b) (starts-run a e) (starts-run b f) l
 
 -- a recording's half-cycles are unknown past their number
-pub half_past : (s : Settings) (xs : List ℤ) (k : ℕ) → halves_of s xs ≤ k → half_at s xs k ≡ Unknown
+pub half_past : (s : Settings) (xs : List ℤ) (k : ℕ) → halves_of s xs ≤ k → half_at s xs k ≡ None
 unfolding half_at
 half_past s xs k l = rw (le-ltb k (halves_of s xs) l)

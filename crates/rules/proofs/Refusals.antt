@@ -1,5 +1,6 @@
 -- What is turned away, in plain numbers: each answer of the checks of a recording is given exactly if the rules say so; a
 -- refused list writes nothing, and an accepted one its events and nothing beyond. Assumes nothing.
+use Rattle.std.specs.Prelude.{Result, Ok, Err, ⊤}
 use Prim.Native.Nat.{ℕ, zero, suc, ◌+◌, ◌-◌, ◌*◌, ◌/◌, ◌%◌, ◌≤◌, ◌<◌}
 use mathlib.Core.Path.{◌≡◌, refl, sym, ap, ◌∙◌}
 use mathlib.Core.Bool.{Bool, true, false, not, ◌&&◌, ◌||◌, cond}
@@ -22,10 +23,6 @@ use Rattle.rules.specs.declared.Settings.{Settings}
 use Rattle.rules.specs.declared.Event.{Event}
 use Rattle.rules.specs.declared.Refusal.{Refusal}
 use Rattle.rules.specs.declared.Refusal.TheVariants.{Setting, Uneven, Short, Ragged, Long, Sample, Room, Full, Unsound}
-use Rattle.rules.specs.declared.Taken.{Taken}
-use Rattle.rules.specs.declared.Taken.TheVariants.{Accepted, Refused}
-use Rattle.rules.specs.declared.Listed.{Listed}
-use Rattle.rules.specs.declared.Listed.TheVariants.{Events, Turned}
 use Rattle.rules.specs.Demands.{Good}
 use Rattle.rules.proofs.Booleans.{both, and_true, not_both, cases}
 use Rattle.rules.proofs.Choices.{lower}
@@ -235,11 +232,11 @@ module _ (s : Settings) (g : Good s) (xs : List ℤ) where
   )
 
   -- all five, one after another
-  answer : (two three four five six : Bool) → Taken
+  answer : (two three four five six : Bool) → Result ⊤ Refusal
   answer two three four five six =
-      cond (not two) (Refused Uneven)
-      (cond three (Refused Short)
-      (cond (not four) (Refused Ragged) (cond five (Refused Long) (cond six (Refused (Sample (first_bad xs))) Accepted))))
+      cond (not two) (Err Uneven)
+      (cond three (Err Short)
+      (cond (not four) (Err Ragged) (cond five (Err Long) (cond six (Err (Sample (first_bad xs))) (Ok tt)))))
 
   given_by : (two three four five six : Bool)
       → eqb (length xs % 3) 0 ≡ two → ltb (samples_of xs) s.n ≡ three → eqb (samples_of xs % (s.n / 2)) 0 ≡ four
@@ -275,128 +272,128 @@ module _ (s : Settings) (g : Good s) (xs : List ℤ) where
   few : (H : ℕ) → HasHalves s xs H → H ≤ 100000 → ltb most_half_cycles (halves_of s xs) ≡ false
   few H e l = le-ltb most_half_cycles (halves_of s xs) (omega (arith, halves_are H e))
 
-  answered : (t : Taken) → Given s xs t → recording_check s xs ≡ t
+  answered : (t : Result ⊤ Refusal) → Given s xs t → recording_check s xs ≡ t
   unfolding recording_check
-  answered (Refused Uneven) w = rw (ne_eqb (length xs % 3) 0 (λ e. w (length xs / 3) (omega arith)))
-  answered (Refused Short) w =
+  answered (Err Uneven) w = rw (ne_eqb (length xs % 3) 0 (λ e. w (length xs / 3) (omega arith)))
+  answered (Err Short) w =
       rw (eq-eqb (length xs % 3) 0 (omega (arith, w.1)), lt-ltb (samples_of xs) s.n (omega (arith, w.1, w.2)))
-  answered (Refused Ragged) w =
+  answered (Err Ragged) w =
       rw (
         eq-eqb (length xs % 3) 0 (omega (arith, w.1)),
         le-ltb (samples_of xs) s.n (omega (arith, w.1, w.2)),
         ne_eqb (samples_of xs % (s.n / 2)) 0
             (λ z. w.3 (samples_of xs / (s.n / 2)) (let d = div-add-mod (samples_of xs) (s.n / 2) in omega (arith, w.1))),
       )
-  answered (Refused Long) w =
+  answered (Err Long) w =
       let t = shaped w.0 w.1 (omega (arith, w.2)) in
       rw (t.0, t.1, t.2, lt-ltb most_half_cycles (halves_of s xs) (omega (arith, halves_are w.0 w.1, w.2)))
-  answered (Refused (Sample i)) w =
+  answered (Err (Sample i)) w =
       let t = shaped w.0 w.1 w.2 in
       let f = first_out_at i w.4 w.5 w.6 in
       rw (t.0, t.1, t.2, few w.0 w.1 w.3, lt-ltb (first_bad xs) (length xs) (omega (arith, f, w.4)), f)
-  answered Accepted w =
+  answered (Ok _) w =
       let t = shaped w.0 w.1 w.2 in
       rw (t.0, t.1, t.2, few w.0 w.1 w.3, le-ltb (first_bad xs) (length xs) (all_in w.4))
-  answered (Refused (Setting i)) w = absurd w
-  answered (Refused (Room n)) w = absurd w
-  answered (Refused (Full n)) w = absurd w
-  answered (Refused Unsound) w = absurd w
+  answered (Err (Setting i)) w = absurd w
+  answered (Err (Room n)) w = absurd w
+  answered (Err (Full n)) w = absurd w
+  answered (Err Unsound) w = absurd w
 
 -- THE LAW: the checks 2 to 6 give each answer exactly if the table says so
-pub recording_check_is : (s : Settings) → settings_good s ≡ true → (xs : List ℤ) (t : Taken) → (recording_check s xs ≡ t) ↔ Given s xs t
+pub recording_check_is : (s : Settings) → settings_good s ≡ true → (xs : List ℤ) (t : Result ⊤ Refusal) → (recording_check s xs ≡ t) ↔ Given s xs t
 recording_check_is s g xs t = (λ e. rw e at (given s (good s g) xs), answered s (good s g) xs t)
 
 -- so a run of H half-cycles has refusal 5 exactly if H is above 100,000, whatever its samples
 pub long_is : (s : Settings) → settings_good s ≡ true → (xs : List ℤ) (H : ℕ) → HasHalves s xs H
-    → (recording_check s xs ≡ Refused Long) ↔ (100000 < H)
+    → (recording_check s xs ≡ Err Long) ↔ (100000 < H)
 long_is s g xs H e = (
   λ c.
-      let w = (recording_check_is s g xs (Refused Long)).0 c in
+      let w = (recording_check_is s g xs (Err Long)).0 c in
       omega (arith, w.2, halves_are s (good s g) xs w.0 w.1, halves_are s (good s g) xs H e),
-  λ l. (recording_check_is s g xs (Refused Long)).1 (H, e, l),
+  λ l. (recording_check_is s g xs (Err Long)).1 (H, e, l),
 )
 
 -- and up to 100,000 it is accepted or has a sample out of range
 pub long_enough : (s : Settings) → settings_good s ≡ true → (xs : List ℤ) (H : ℕ) → HasHalves s xs H → 0 < H → H ≤ 100000
-    → (recording_check s xs ≡ Accepted) ⊎ ((i : ℕ) × (recording_check s xs ≡ Refused (Sample i)))
+    → (recording_check s xs ≡ Ok tt) ⊎ ((i : ℕ) × (recording_check s xs ≡ Err (Sample i)))
 long_enough s g xs H e l u = by (lower (first_bad xs) (length xs))
   where
-    by : (first_bad xs < length xs) ⊎ (length xs ≤ first_bad xs) → (recording_check s xs ≡ Accepted) ⊎ ((i : ℕ) × (recording_check s xs ≡ Refused (Sample i)))
+    by : (first_bad xs < length xs) ⊎ (length xs ≤ first_bad xs) → (recording_check s xs ≡ Ok tt) ⊎ ((i : ℕ) × (recording_check s xs ≡ Err (Sample i)))
     by (inl v) =
         let o = first_out s (good s g) xs v in
-        inr (first_bad xs, (recording_check_is s g xs (Refused (Sample (first_bad xs)))).1 (H, e, l, u, v, o.0, o.1))
-    by (inr v) = inl ((recording_check_is s g xs Accepted).1 (H, e, l, u, none_out s (good s g) xs v))
+        inr (first_bad xs, (recording_check_is s g xs (Err (Sample (first_bad xs)))).1 (H, e, l, u, v, o.0, o.1))
+    by (inr v) = inl ((recording_check_is s g xs (Ok tt)).1 (H, e, l, u, none_out s (good s g) xs v))
 
 -- ---- the list
 
 -- the settings' check accepts good settings, and else names a setting
-pub settings_by : (s : Settings) (b : Bool) → settings_good s ≡ b → settings_check s ≡ cond b Accepted (Refused (Setting (bad_setting s)))
+pub settings_by : (s : Settings) (b : Bool) → settings_good s ≡ b → settings_check s ≡ cond b (Ok tt) (Err (Setting (bad_setting s)))
 unfolding settings_check
 settings_by s b e = rw e
 
 -- what the list answers: by the settings, by the recording, by the room
-by_room : (s : Settings) (xs : List ℤ) (room : ℕ) → settings_good s ≡ true → recording_check s xs ≡ Accepted
-    → listed s xs room ≡ cond (ltb room (11 * length (events_of s xs))) (Turned (Room (length (events_of s xs)))) (Events (length (events_of s xs)))
+by_room : (s : Settings) (xs : List ℤ) (room : ℕ) → settings_good s ≡ true → recording_check s xs ≡ Ok tt
+    → listed s xs room ≡ cond (ltb room (11 * length (events_of s xs))) (Err (Room (length (events_of s xs)))) (Ok (length (events_of s xs)))
 unfolding listed list_check room_check
 by_room s xs room g c = rw (settings_by s true g, c) (go (ltb room (11 * length (events_of s xs))) (length (events_of s xs)))
   where
-    go : (b : Bool) (n : ℕ) → by_check (cond b (Refused (Room n)) Accepted) (Events n) (λ r. Turned r) ≡ cond b (Turned (Room n)) (Events n)
+    go : (b : Bool) (n : ℕ) → by_check (cond b (Err (Room n)) (Ok tt)) (Ok n) (λ r. Err r) ≡ cond b (Err (Room n)) (Ok n)
     go true n = refl
     go false n = refl
 
-by_recording : (s : Settings) (xs : List ℤ) (room : ℕ) (r : Refusal) → settings_good s ≡ true → recording_check s xs ≡ Refused r
-    → listed s xs room ≡ Turned r
+by_recording : (s : Settings) (xs : List ℤ) (room : ℕ) (r : Refusal) → settings_good s ≡ true → recording_check s xs ≡ Err r
+    → listed s xs room ≡ Err r
 unfolding listed list_check
 by_recording s xs room r g c = rw (settings_by s true g, c)
 
-by_settings : (s : Settings) (xs : List ℤ) (room : ℕ) → settings_good s ≡ false → listed s xs room ≡ Turned (Setting (bad_setting s))
+by_settings : (s : Settings) (xs : List ℤ) (room : ℕ) → settings_good s ≡ false → listed s xs room ≡ Err (Setting (bad_setting s))
 unfolding listed list_check
 by_settings s xs room g = rw (settings_by s false g)
 
 -- THE LAW: the list gives each answer exactly if the table says so
 module _ (s : Settings) (xs : List ℤ) (room : ℕ) where
-  with_room : settings_good s ≡ true → recording_check s xs ≡ Accepted → (room < 11 * length (events_of s xs)) ⊎ (11 * length (events_of s xs) ≤ room)
+  with_room : settings_good s ≡ true → recording_check s xs ≡ Ok tt → (room < 11 * length (events_of s xs)) ⊎ (11 * length (events_of s xs) ≤ room)
       → Answered s xs room (listed s xs room)
   with_room g c (inl l) =
-      rw (by_room s xs room g c, lt-ltb room (11 * length (events_of s xs)) l) (inr (inr (g, (recording_check_is s g xs Accepted).0 c, refl, l)))
+      rw (by_room s xs room g c, lt-ltb room (11 * length (events_of s xs)) l) (inr (inr (g, (recording_check_is s g xs (Ok tt)).0 c, refl, l)))
   with_room g c (inr l) =
-      rw (by_room s xs room g c, le-ltb room (11 * length (events_of s xs)) l) (g, (recording_check_is s g xs Accepted).0 c, refl, l)
+      rw (by_room s xs room g c, le-ltb room (11 * length (events_of s xs)) l) (g, (recording_check_is s g xs (Ok tt)).0 c, refl, l)
 
-  with_recording : settings_good s ≡ true → (t : Taken) → recording_check s xs ≡ t → Answered s xs room (listed s xs room)
-  with_recording g Accepted c = with_room g c (lower room (11 * length (events_of s xs)))
-  with_recording g (Refused r) c = rw (by_recording s xs room r g c) (inr (inl (g, (recording_check_is s g xs (Refused r)).0 c)))
+  with_recording : settings_good s ≡ true → (t : Result ⊤ Refusal) → recording_check s xs ≡ t → Answered s xs room (listed s xs room)
+  with_recording g (Ok _) c = with_room g c (lower room (11 * length (events_of s xs)))
+  with_recording g (Err r) c = rw (by_recording s xs room r g c) (inr (inl (g, (recording_check_is s g xs (Err r)).0 c)))
 
   with_settings : (b : Bool) → settings_good s ≡ b → Answered s xs room (listed s xs room)
   with_settings true g = with_recording g (recording_check s xs) refl
   with_settings false g = rw (by_settings s xs room g) (inl (g, refl))
 
-  lists : (a : Listed) → Answered s xs room a → listed s xs room ≡ a
-  lists (Events n) w =
-      let c = (recording_check_is s w.0 xs Accepted).1 w.1 in
+  lists : (a : Result ℕ Refusal) → Answered s xs room a → listed s xs room ≡ a
+  lists (Ok n) w =
+      let c = (recording_check_is s w.0 xs (Ok tt)).1 w.1 in
       let n-is = w.2 in
       rw (by_room s xs room w.0 c, le-ltb room (11 * length (events_of s xs)) (omega (arith, w.3, n-is)), n-is)
-  lists (Turned r) (inl w) = rw (by_settings s xs room w.0, w.1)
-  lists (Turned r) (inr (inl w)) = by_recording s xs room r w.0 ((recording_check_is s w.0 xs (Refused r)).1 w.1)
-  lists (Turned r) (inr (inr w)) =
-      let c = (recording_check_is s w.0 xs Accepted).1 w.1 in
+  lists (Err r) (inl w) = rw (by_settings s xs room w.0, w.1)
+  lists (Err r) (inr (inl w)) = by_recording s xs room r w.0 ((recording_check_is s w.0 xs (Err r)).1 w.1)
+  lists (Err r) (inr (inr w)) =
+      let c = (recording_check_is s w.0 xs (Ok tt)).1 w.1 in
       rw (by_room s xs room w.0 c, lt-ltb room (11 * length (events_of s xs)) w.3, w.2)
 
-  pub listed_is : (a : Listed) → (listed s xs room ≡ a) ↔ Answered s xs room a
+  pub listed_is : (a : Result ℕ Refusal) → (listed s xs room ≡ a) ↔ Answered s xs room a
   listed_is a = (λ e. rw e at (with_settings (settings_good s) refl), lists a)
 
 -- ---- what it writes
 
-by_turned : (c : Taken) (n : ℕ) (a b : List ℕ) (r : Refusal) → by_check c (Events n) (λ r. Turned r) ≡ Turned r → by_check c a (λ r. b) ≡ b
-by_turned Accepted n a b r h = let z : ◌≡◌ {A = ℕ} 0 1 = cc in absurd (omega arith)
-by_turned (Refused q) n a b r h = refl
+by_turned : (c : Result ⊤ Refusal) (n : ℕ) (a b : List ℕ) (r : Refusal) → by_check c (Ok n) (λ r. Err r) ≡ Err r → by_check c a (λ r. b) ≡ b
+by_turned (Ok _) n a b r h = let z : ◌≡◌ {A = ℕ} 0 1 = cc in absurd (omega arith)
+by_turned (Err q) n a b r h = refl
 
-by_listed : (c : Taken) (m n : ℕ) (a b : List ℕ) → by_check c (Events m) (λ r. Turned r) ≡ Events n → by_check c a (λ r. b) ≡ a
-by_listed Accepted m n a b h = refl
-by_listed (Refused r) m n a b h = let z : ◌≡◌ {A = ℕ} 0 1 = cc in absurd (omega arith)
+by_listed : (c : Result ⊤ Refusal) (m n : ℕ) (a b : List ℕ) → by_check c (Ok m) (λ r. Err r) ≡ Ok n → by_check c a (λ r. b) ≡ a
+by_listed (Ok _) m n a b h = refl
+by_listed (Err r) m n a b h = let z : ◌≡◌ {A = ℕ} 0 1 = cc in absurd (omega arith)
 
 -- THE LAW: a refusal writes nothing
 pub refused_writes_nothing : (s : Settings) (xs : List ℤ) (out : List ℕ) (r : Refusal)
-    → listed s xs (length out) ≡ Turned r → written s xs out ≡ out
+    → listed s xs (length out) ≡ Err r → written s xs out ≡ out
 unfolding listed written
 refused_writes_nothing s xs out r h =
     by_turned (list_check s xs (length out)) (length (events_of s xs))
@@ -421,12 +418,12 @@ words-at (e ∷ es) d (suc i) l =
     let q : 11 * suc i ≡ suc (suc (suc (suc (suc (suc (suc (suc (suc (suc (suc (11 * i))))))))))) = omega arith in
     rw q (words-at es d i (omega arith))
 
-module _ (s : Settings) (xs : List ℤ) (out : List ℕ) (n : ℕ) (ok : listed s xs (length out) ≡ Events n) where
+module _ (s : Settings) (xs : List ℤ) (out : List ℕ) (n : ℕ) (ok : listed s xs (length out) ≡ Ok n) where
   words-length : length (flat (events_of s xs)) ≡ 11 * n
-  words-length = flat-length (events_of s xs) ∙ ap (λ (x : ℕ). 11 * x) (sym ((listed_is s xs (length out) (Events n)).0 ok).2)
+  words-length = flat-length (events_of s xs) ∙ ap (λ (x : ℕ). 11 * x) (sym ((listed_is s xs (length out) (Ok n)).0 ok).2)
 
   words_fit : length (flat (events_of s xs)) ≤ length out
-  words_fit = omega (arith, words-length, ((listed_is s xs (length out) (Events n)).0 ok).3)
+  words_fit = omega (arith, words-length, ((listed_is s xs (length out) (Ok n)).0 ok).3)
 
   written_is : written s xs out ≡ flat (events_of s xs) ++ drop (length (flat (events_of s xs))) out
   unfolding listed written
@@ -455,7 +452,7 @@ module _ (s : Settings) (xs : List ℤ) (out : List ℕ) (n : ℕ) (ok : listed 
       ap (λ v. take 11 (drop (11 * i) v)) written_is
       ∙ ap (take 11) (drop-append-le (11 * i) w rest (omega arith))
       ∙ take-append-le 11 (drop (11 * i) w) rest (omega arith)
-      ∙ words-at (events_of s xs) d i (omega (arith, ((listed_is s xs (length out) (Events n)).0 ok).2))
+      ∙ words-at (events_of s xs) d i (omega (arith, ((listed_is s xs (length out) (Ok n)).0 ok).2))
 
   -- and the numbers beyond the last event stay unchanged
   pub written_rest : (i d : ℕ) → 11 * n ≤ i → get_or (written s xs out) i d ≡ get_or out i d

@@ -10,11 +10,10 @@ use native.Mathlib.Omega.{arith}
 use borrow.Author.Tests.{lt-ltb, le-ltb}
 use lib.Dec.{ltb}
 use Rattle.rules.specs.Bounded.{any, all, before, first_not}
-use Rattle.rules.specs.Halves.{known}
+use Rattle.rules.specs.Halves.{Half, known}
 use Rattle.rules.specs.Events.{begins, ends, carries, in_run, in_event}
 use Rattle.rules.specs.Demands.{goes_on}
 use Rattle.rules.specs.declared.Settings.{Settings}
-use Rattle.rules.specs.declared.Half.{Half}
 use Rattle.rules.specs.declared.Kind.{Kind}
 use Rattle.rules.proofs.Bounded.{any_same, all_true, any_false}
 

@@ -1,4 +1,5 @@
 -- What an accepted recording is: its windows lie within the run, its samples are in range, and so its sums are low. Assumes nothing.
+use Rattle.std.specs.Prelude.{Result, Ok, Err, Some, None, ⊤}
 use Prim.Native.Nat.{ℕ, zero, suc, ◌+◌, ◌*◌, ◌/◌, ◌%◌, ◌≤◌, ◌<◌}
 use mathlib.Core.Path.{◌≡◌, refl, sym, ap, ◌∙◌}
 use mathlib.Core.Bool.{Bool, true, false, not, ◌&&◌, cond, false≢true}
@@ -18,11 +19,8 @@ use Rattle.rules.specs.Refusals.{recording_check, most_half_cycles, and_then}
 use Rattle.rules.specs.Demands.{Good, AcceptedRecording}
 use Rattle.rules.specs.declared.Settings.{Settings}
 use Rattle.rules.specs.declared.Sums.{Sums}
-use Rattle.rules.specs.declared.Half.TheVariants.{Unknown, Known}
 use Rattle.rules.specs.declared.Refusal.{Refusal}
 use Rattle.rules.specs.declared.Refusal.TheVariants.{Uneven, Short, Ragged, Long, Sample}
-use Rattle.rules.specs.declared.Taken.{Taken}
-use Rattle.rules.specs.declared.Taken.TheVariants.{Accepted, Refused}
 use Rattle.rules.proofs.Booleans.{both, neither, not_both}
 use Rattle.rules.proofs.Bounded.{all-at, all_true}
 use Rattle.rules.proofs.Longest.{first_between, first_refused}
@@ -56,26 +54,26 @@ first_found p n = by (all p n) (ltb (first_not p 0 n) n) refl refl
 -- ---- an accepted recording: what its check says
 
 -- a check that accepts does not refuse, and goes on to the next
-pub goes_on_lem : (refused : Bool) (r : Refusal) (next : Taken) → cond refused (Refused r) next ≡ Accepted → (refused ≡ false) × (next ≡ Accepted)
+pub goes_on_lem : (refused : Bool) (r : Refusal) (next : Result ⊤ Refusal) → cond refused (Err r) next ≡ Ok tt → (refused ≡ false) × (next ≡ Ok tt)
 goes_on_lem true r next h = let z : ◌≡◌ {A = ℕ} 0 1 = cc in absurd (omega arith)
 goes_on_lem false r next h = (refl, h)
 
-pub both_accept : (c d : Taken) → and_then c d ≡ Accepted → (c ≡ Accepted) × (d ≡ Accepted)
-both_accept Accepted d h = (refl, h)
-both_accept (Refused r) d h = let z : ◌≡◌ {A = ℕ} 0 1 = cc in absurd (omega arith)
+pub both_accept : (c d : Result ⊤ Refusal) → and_then c d ≡ Ok tt → (c ≡ Ok tt) × (d ≡ Ok tt)
+both_accept (Ok _) d h = (refl, h)
+both_accept (Err r) d h = let z : ◌≡◌ {A = ℕ} 0 1 = cc in absurd (omega arith)
 
 none-bad : (xs : List ℤ) → length xs ≤ first_bad xs → (i : ℕ) → i < length xs → in_range (get_or xs i (pos 0)) ≡ true
 unfolding first_bad
 none-bad xs h i l = first_between (λ i. in_range (get_or xs i (pos 0))) 0 (length xs) i (omega arith) (omega arith)
 
-pub accepted_recording : (s : Settings) (xs : List ℤ) → recording_check s xs ≡ Accepted → AcceptedRecording s xs
+pub accepted_recording : (s : Settings) (xs : List ℤ) → recording_check s xs ≡ Ok tt → AcceptedRecording s xs
 unfolding recording_check
 accepted_recording s xs h =
     let two = goes_on_lem (not (eqb (length xs % 3) 0)) Uneven _ h in
     let three = goes_on_lem (ltb (samples_of xs) s.n) Short _ two.1 in
     let four = goes_on_lem (not (eqb (samples_of xs % (s.n / 2)) 0)) Ragged _ three.1 in
     let five = goes_on_lem (ltb most_half_cycles (halves_of s xs)) Long _ four.1 in
-    let six = goes_on_lem (ltb (first_bad xs) (length xs)) (Sample (first_bad xs)) Accepted five.1 in
+    let six = goes_on_lem (ltb (first_bad xs) (length xs)) (Sample (first_bad xs)) (Ok tt) five.1 in
     record {
       threes = eqb-true (length xs % 3) 0 (not-false _ two.0);
       enough = ltb-false (samples_of xs) s.n three.0;
@@ -98,7 +96,7 @@ window-fits s xs g a k l =
 
 -- ---- what a known half-cycle is, and that its sums are low
 
-is_known : (b : Bool) (v w : Sums) → cond b (Known v) Unknown ≡ Known w → (b ≡ true) × (v ≡ w)
+is_known : (b : Bool) (v w : Sums) → cond b (Some v) None ≡ Some w → (b ≡ true) × (v ≡ w)
 is_known true v w h = (refl, cc)
 is_known false v w h = let z : ◌≡◌ {A = ℕ} 0 1 = cc in absurd (omega arith)
 
@@ -107,18 +105,18 @@ pub record Knows (s : Settings) (xs : List ℤ) (k : ℕ) (v : Sums) : Type 0 wh
   pub whole : any_missing s xs k ≡ false
   pub sums : sums_at s xs k ≡ v
 
-pub knows : (s : Settings) (xs : List ℤ) (k : ℕ) (v : Sums) → half_at s xs k ≡ Known v → Knows s xs k v
+pub knows : (s : Settings) (xs : List ℤ) (k : ℕ) (v : Sums) → half_at s xs k ≡ Some v → Knows s xs k v
 unfolding half_at
 knows s xs k v h =
     let p = is_known (ltb k (halves_of s xs) && not (any_missing s xs k)) (sums_at s xs k) v h in
     let q = both (ltb k (halves_of s xs)) (not (any_missing s xs k)) p.0 in
     record { exists = ltb-true k (halves_of s xs) q.0; whole = not-true (any_missing s xs k) q.1; sums = p.1 }
 
-pub known_is : (s : Settings) (xs : List ℤ) (k : ℕ) → known (half_at s xs k) ≡ true → half_at s xs k ≡ Known (sums_at s xs k)
+pub known_is : (s : Settings) (xs : List ℤ) (k : ℕ) → known (half_at s xs k) ≡ true → half_at s xs k ≡ Some (sums_at s xs k)
 unfolding half_at
 known_is s xs k h = by (ltb k (halves_of s xs) && not (any_missing s xs k)) h
   where
-    by : (b : Bool) → known (cond b (Known (sums_at s xs k)) Unknown) ≡ true → cond b (Known (sums_at s xs k)) Unknown ≡ Known (sums_at s xs k)
+    by : (b : Bool) → known (cond b (Some (sums_at s xs k)) None) ≡ true → cond b (Some (sums_at s xs k)) None ≡ Some (sums_at s xs k)
     by true h = refl
     by false h = absurd (false≢true h)
 
@@ -148,7 +146,7 @@ module _ (s : Settings) (xs : List ℤ) (g : Good s) (a : AcceptedRecording s xs
       sum_le (λ i. square (sample_at xs c (begin s k + i))) 10000000000 s.n
       (λ i l. square-low (sample_at xs c (begin s k + i)) (sample_low i c l m))
 
-pub sums-low : (s : Settings) (xs : List ℤ) → Good s → AcceptedRecording s xs → (k : ℕ) (v : Sums) → half_at s xs k ≡ Known v → (v.a ≤ s.n * 10000000000) × (v.b ≤ s.n * 10000000000) × (v.c ≤ s.n * 10000000000)
+pub sums-low : (s : Settings) (xs : List ℤ) → Good s → AcceptedRecording s xs → (k : ℕ) (v : Sums) → half_at s xs k ≡ Some v → (v.a ≤ s.n * 10000000000) × (v.b ≤ s.n * 10000000000) × (v.c ≤ s.n * 10000000000)
 unfolding sums_at
 sums-low s xs g a k v h =
     let p = knows s xs k v h in

@@ -1,4 +1,5 @@
 -- What the tests of an event say of its numbers, and what an event has that has no reason against it. Assumes nothing.
+use Rattle.std.specs.Prelude.{Option, Some}
 use Prim.Native.Nat.{ℕ, zero, suc, ◌+◌, ◌-◌, ◌*◌, ◌≤◌, ◌<◌}
 use mathlib.Core.Path.{◌≡◌, refl}
 use mathlib.Core.Bool.{Bool, true, false, not, ◌&&◌, cond}
@@ -7,10 +8,12 @@ use borrow.Author.Tests.{leb-true, ltb-true, eqb-true}
 use lib.Dec.{leb, ltb, eqb}
 use Rattle.rules.specs.declared.Settings.{Settings}
 use Rattle.rules.specs.declared.Event.{Event}
+use Rattle.rules.specs.declared.Reason.{Reason}
+use Rattle.rules.specs.declared.Reason.TheVariants.{NotASag, NotAnEvent, BadSettings}
 use Rattle.rules.specs.Recorder.{within, settings_good}
 use Rattle.rules.specs.Halves.{full, below}
 use Rattle.rules.specs.Events.{retained_of, three, make_up}
-use Rattle.rules.specs.Scores.{in_bounds, is_sag, sag_good, other_good, is_event, unseen_of, reason_of}
+use Rattle.rules.specs.Scores.{in_bounds, is_sag, sag_good, other_good, is_event, reason_number, unseen_of, why_of, reason_of}
 use Rattle.rules.specs.Demands.{Scorable}
 use Rattle.rules.proofs.Booleans.{both}
 use Rattle.rules.proofs.Ranges.{good, full-least}
@@ -69,7 +72,7 @@ pub event-parts : (s : Settings) (e : Event) → is_event s e ≡ true → e.par
 event-parts s e h = (tests s e h).2
 
 -- the reason of a sag is what is unseen of it, as `seen` counts it: 1 for the start plus 2 for the end
-pub unseen_is : (seen : ℕ) → seen ≤ 3 → unseen_of seen ≡ 3 - seen
+pub unseen_is : (seen : ℕ) → seen ≤ 3 → reason_number (unseen_of seen) ≡ 3 - seen
 unseen_is zero h = refl
 unseen_is (suc zero) h = refl
 unseen_is (suc (suc zero)) h = refl
@@ -78,16 +81,16 @@ unseen_is (suc (suc (suc (suc k)))) h = absurd (omega arith)
 
 -- ---- no reason
 
-no_reason : (good event sag : Bool) (unseen : ℕ)
-    → cond (not good) 6 (cond (not event) 5 (cond (not sag) 4 unseen)) ≡ 0
-    → (good ≡ true) × (event ≡ true) × (sag ≡ true) × (unseen ≡ 0)
+no_reason : (good event sag : Bool) (unseen : Option Reason)
+    → reason_number (cond (not good) (Some BadSettings) (cond (not event) (Some NotAnEvent) (cond (not sag) (Some NotASag) unseen))) ≡ 0
+    → (good ≡ true) × (event ≡ true) × (sag ≡ true) × (reason_number unseen ≡ 0)
 no_reason true true true unseen h = (refl, refl, refl, h)
 no_reason true true false unseen h = absurd (omega arith)
 no_reason true false sag unseen h = absurd (omega arith)
 no_reason false event sag unseen h = absurd (omega arith)
 
 pub scorable : (s : Settings) (e : Event) → reason_of s e ≡ 0 → Scorable s e
-unfolding reason_of
+unfolding reason_of why_of
 scorable s e h =
     let n = no_reason (settings_good s) (is_event s e) (is_sag e) (unseen_of e.seen) h in
     let high = (event_bounds s e n.1).seen in

@@ -1,5 +1,6 @@
 -- Severity is one fraction, rounded once; half the divisor gives exactly twice the float. So beyond 20f half-cycles, where the curve stands at
 -- 900 and not at 800, a sag's severity is twice what it would be by 800. Assumes nothing.
+use Rattle.std.specs.Prelude.{Ok}
 use Prim.Native.Nat.{ℕ, zero, suc, ◌-◌, ◌*◌, ◌/◌, ◌^◌, ◌≤◌, ◌<◌}
 use mathlib.Core.Path.{◌≡◌, refl, sym, ◌∙◌, subst}
 use mathlib.Core.Bool.{true, false, true≢false}
@@ -20,7 +21,6 @@ use Rattle.rules.specs.Meanings.{Twice}
 use Rattle.rules.specs.declared.Settings.{Settings}
 use Rattle.rules.specs.declared.Event.{Event}
 use Rattle.rules.specs.declared.Score.{Score}
-use Rattle.rules.specs.declared.Scoring.TheVariants.{Scored}
 use Rattle.rules.proofs.DemandTwo.{scored-only}
 use Rattle.rules.proofs.Places.{curve_is}
 use Rattle.rules.proofs.Ranges.{good}
@@ -113,7 +113,7 @@ pub severity_doubles : (r : ℕ) → Twice (severity_of r 800) (severity_of r 90
 severity_doubles r = half_the_divisor r 800 900 (lit< tt) refl
 
 -- THE LAW: where a sag of more than 20f half-cycles is scored, its severity is exactly twice what 800 would give
-pub long_sag_doubles : (s : Settings) (e : Event) (x : Score) → scoring s e ≡ Scored x → 20 * s.f < e.end - e.start
+pub long_sag_doubles : (s : Settings) (e : Event) (x : Score) → scoring s e ≡ Ok x → 20 * s.f < e.end - e.start
     → Twice (severity_of e.retained 800) x.severity
 long_sag_doubles s e x scored long =
     let only = scored-only s e x scored in

@@ -12,13 +12,12 @@ use borrow.Author.Tests.{lt-ltb, le-ltb}
 use lib.Dec.{ltb}
 use lib.IntN.{ℤ}
 use Rattle.rules.specs.Bounded.{sum, before, first_not}
-use Rattle.rules.specs.Halves.{of_channel, channels, squares, sums_at, half_at, halves_of, known}
+use Rattle.rules.specs.Halves.{Half, of_channel, channels, squares, sums_at, half_at, halves_of, known}
 use Rattle.rules.specs.Events.{in_event, starts, end_of, short_of, shorts, sum_from, shorts_of, three}
 use Rattle.rules.specs.EventList.{event_from}
 use Rattle.rules.specs.Site.{sag_sum, sag_short, sag_shorts}
 use Rattle.rules.specs.declared.Settings.{Settings}
 use Rattle.rules.specs.declared.Sums.{Sums}
-use Rattle.rules.specs.declared.Half.{Half}
 use Rattle.rules.specs.declared.Kind.{Kind}
 use Rattle.rules.specs.declared.Kind.TheVariants.{Sag, Interruption, Swell}
 use Rattle.rules.proofs.Adding.{sum-plus, sum-none}

@@ -1,6 +1,7 @@
 -- Each half-cycle told: its five numbers lie in their place of the run, the classes told are those that a site table counts, a
 -- kind's part is in the second number exactly if the half-cycle lies in an event of that kind in the list, and each answer is given
 -- exactly if the checks say so. Assumes nothing.
+use Rattle.std.specs.Prelude.{Result, Ok, Err, Some, None, ⊤}
 use Prim.Native.Nat.{ℕ, zero, suc, ◌+◌, ◌-◌, ◌*◌, ◌/◌, ◌%◌, ◌≤◌, ◌<◌}
 use mathlib.Core.Path.{◌≡◌, refl, sym, ap, ◌∙◌}
 use mathlib.Core.Bool.{Bool, true, false}
@@ -14,7 +15,7 @@ use lib.IntN.{ℤ}
 use lib.ListN.{length, get_or, take, drop, length-append, length-drop}
 use lib.Seq.{take_all, drop_at, take-append-le, drop-append-le, get_or-take, get_or-drop}
 use Rattle.rules.specs.Bounded.{bit, join, count}
-use Rattle.rules.specs.Halves.{channels, squares, sums_at, half_at, halves_of, known}
+use Rattle.rules.specs.Halves.{Half, channels, squares, sums_at, half_at, halves_of, known}
 use Rattle.rules.specs.Events.{in_event, starts, end_of}
 use Rattle.rules.specs.EventList.{event_from}
 use Rattle.rules.specs.Trace.{class_at, kinds_at, sums_told, half_words, trace_of}
@@ -24,16 +25,10 @@ use Rattle.rules.specs.Demands.{Good, sum_over, SumsUp}
 use Rattle.rules.specs.Meanings.{Checked, Told, Begins, Keeps, has_class, weight_of, has_kind, can_be, class_in, kinds_in, sum_in, told_as, told_in, InListed}
 use Rattle.rules.specs.declared.Settings.{Settings}
 use Rattle.rules.specs.declared.Sums.{Sums}
-use Rattle.rules.specs.declared.Half.{Half}
-use Rattle.rules.specs.declared.Half.TheVariants.{Unknown, Known}
 use Rattle.rules.specs.declared.Kind.{Kind}
 use Rattle.rules.specs.declared.Kind.TheVariants.{Sag, Interruption, Swell}
 use Rattle.rules.specs.declared.Table.{Table}
 use Rattle.rules.specs.declared.Refusal.{Refusal}
-use Rattle.rules.specs.declared.Taken.{Taken}
-use Rattle.rules.specs.declared.Taken.TheVariants.{Accepted, Refused}
-use Rattle.rules.specs.declared.Traced.{Traced}
-use Rattle.rules.specs.declared.Traced.TheVariants.{Halves, Untraced}
 use Rattle.rules.proofs.Booleans.{not_both, bit_le, cases}
 use Rattle.rules.proofs.Bounded.{count_same}
 use Rattle.rules.proofs.Channels.{percent_rises, in_by_the_one_before}
@@ -118,7 +113,7 @@ module _ (s : Settings) (g : Good s) (h : ℕ → Half) (k : ℕ) where
       let same : w.0 ≡ i.0 = one w.0 i.0 (sym w.1 ∙ i.1) in
       apart i.0 (⊎_elim (low i.0) (λ b. b.1) i.2) (rw same at (⊎_elim (high w.0) (λ b. b.1) w.2))
     where
-      one : (u v : Sums) → Known u ≡ Known v → u ≡ v
+      one : (u v : Sums) → Some u ≡ Some v → u ≡ v
       one u v e = cc
 
       low : (v : Sums) → Begins s Interruption v → Keeps s Interruption v
@@ -225,8 +220,8 @@ module _ (s : Settings) (xs : List ℤ) where
         no_event kind = ⊎_elim (λ i. absurd (not_both (known (h k)) (in_known s h kind k i) e)) (λ i. i) (cases (in_event s h kind k))
 
         no_sums : (v : Half) → known v ≡ false → sums_told v ≡ channels (λ c. 0)
-        no_sums Unknown e = refl
-        no_sums (Known v) e = absurd (not_both true refl e)
+        no_sums None e = refl
+        no_sums (Some v) e = absurd (not_both true refl e)
 
     -- THE LAW: a kind is told of half-cycle k exactly if it lies in an event of that kind in the list
     pub kind_in_list : (kind : Kind) → (has_kind kind (kinds_in (trace_of s xs) k) ≡ true) ↔ InListed s xs kind k
@@ -291,50 +286,50 @@ tables-told s set t rs u = (
 
 -- ---- the answer
 
-module _ (c : Taken) (m : ℕ) where
-  traced_many : (n : ℕ) → by_check c (Halves m) (λ r. Untraced r) ≡ Halves n → (c ≡ Accepted) × (m ≡ n)
-  traced_many = so_many Halves (λ r. Untraced r) (λ n r h. let z : ◌≡◌ {A = ℕ} 0 1 = cc in omega arith) (λ m n h. cc) (λ q r h. cc) c m
+module _ (c : Result ⊤ Refusal) (m : ℕ) where
+  traced_many : (n : ℕ) → by_check c (Ok m) (λ r. Err r) ≡ Ok n → (c ≡ Ok tt) × (m ≡ n)
+  traced_many = so_many Ok (λ r. Err r) (λ n r h. let z : ◌≡◌ {A = ℕ} 0 1 = cc in omega arith) (λ m n h. cc) (λ q r h. cc) c m
 
-  traced-turned : (r : Refusal) → by_check c (Halves m) (λ r. Untraced r) ≡ Untraced r → c ≡ Refused r
-  traced-turned = turned_away_lem Halves (λ r. Untraced r) (λ n r h. let z : ◌≡◌ {A = ℕ} 0 1 = cc in omega arith) (λ m n h. cc) (λ q r h. cc) c m
+  traced-turned : (r : Refusal) → by_check c (Ok m) (λ r. Err r) ≡ Err r → c ≡ Err r
+  traced-turned = turned_away_lem Ok (λ r. Err r) (λ n r h. let z : ◌≡◌ {A = ℕ} 0 1 = cc in omega arith) (λ m n h. cc) (λ q r h. cc) c m
 
 module _ (s : Settings) (xs : List ℤ) (room : ℕ) where
-  trace_check_is : (t : Taken) → (trace_check s xs room ≡ t) ↔ Checked s xs 5 (halves_of s xs) room t
+  trace_check_is : (t : Result ⊤ Refusal) → (trace_check s xs room ≡ t) ↔ Checked s xs 5 (halves_of s xs) room t
   unfolding trace_check trace_room_check
   trace_check_is = checks_are s xs 5 (halves_of s xs) room
 
-  tells : (a : Traced) → traced s xs room ≡ a → Told s xs room a
+  tells : (a : Result ℕ Refusal) → traced s xs room ≡ a → Told s xs room a
   unfolding traced
-  tells (Halves n) e =
+  tells (Ok n) e =
       let r = traced_many (trace_check s xs room) (halves_of s xs) n e in
-      let w = (trace_check_is Accepted).0 r.0 in
+      let w = (trace_check_is (Ok tt)).0 r.0 in
       let H = w.1 in
       let q = r.1 in
       let same = halves_are s (good s w.0) xs H.0 H.1 in
       let is : H.0 ≡ n = sym same ∙ q in
       (rw is at H.1, (w.0, w.1, omega (arith, w.2)))
-  tells (Untraced r) e = (trace_check_is (Refused r)).0 (traced-turned (trace_check s xs room) (halves_of s xs) r e)
+  tells (Err r) e = (trace_check_is (Err r)).0 (traced-turned (trace_check s xs room) (halves_of s xs) r e)
 
-  telling : (a : Traced) → Told s xs room a → traced s xs room ≡ a
+  telling : (a : Result ℕ Refusal) → Told s xs room a → traced s xs room ≡ a
   unfolding traced
-  telling (Halves n) w =
+  telling (Ok n) w =
       let q = halves_are s (good s w.1.0) xs n w.0 in
-      rw ((trace_check_is Accepted).1 (w.1.0, w.1.1, omega (arith, w.1.2)), q)
-  telling (Untraced r) w = rw ((trace_check_is (Refused r)).1 w)
+      rw ((trace_check_is (Ok tt)).1 (w.1.0, w.1.1, omega (arith, w.1.2)), q)
+  telling (Err r) w = rw ((trace_check_is (Err r)).1 w)
 
   -- THE LAW: the call gives each answer exactly if the checks say so
-  pub traced_is : (a : Traced) → (traced s xs room ≡ a) ↔ Told s xs room a
+  pub traced_is : (a : Result ℕ Refusal) → (traced s xs room ≡ a) ↔ Told s xs room a
   traced_is a = (tells a, telling a)
 
 -- ---- what it writes
 
 -- THE LAW: a refusal writes nothing
 pub untraced_writes_nothing : (s : Settings) (xs : List ℤ) (out : List ℕ) (r : Refusal)
-    → traced s xs (length out) ≡ Untraced r → trace_written s xs out ≡ out
+    → traced s xs (length out) ≡ Err r → trace_written s xs out ≡ out
 unfolding traced trace_written
 untraced_writes_nothing s xs out r h = rw (traced-turned (trace_check s xs (length out)) (halves_of s xs) r h)
 
-module _ (s : Settings) (xs : List ℤ) (out : List ℕ) (n : ℕ) (ok : traced s xs (length out) ≡ Halves n) where
+module _ (s : Settings) (xs : List ℤ) (out : List ℕ) (n : ℕ) (ok : traced s xs (length out) ≡ Ok n) where
   halves-told : halves_of s xs ≡ n
   unfolding traced
   halves-told = (traced_many (trace_check s xs (length out)) (halves_of s xs) n ok).1
@@ -343,7 +338,7 @@ module _ (s : Settings) (xs : List ℤ) (out : List ℕ) (n : ℕ) (ok : traced 
   numbers = trace-length s xs ∙ ap (λ (x : ℕ). 5 * x) halves-told
 
   numbers_fit : length (trace_of s xs) ≤ length out
-  numbers_fit = omega (arith, numbers, ((traced_is s xs (length out) (Halves n)).0 ok).1.2)
+  numbers_fit = omega (arith, numbers, ((traced_is s xs (length out) (Ok n)).0 ok).1.2)
 
   trace_written_is : trace_written s xs out ≡ over (trace_of s xs) out
   unfolding traced trace_written

@@ -1,5 +1,5 @@
 -- The cells that some borders don't use are 0: the test of a table says so, both ways. Assumes nothing.
-use Prim.Native.Nat.{ℕ, ◌-◌, ◌≤◌, ◌<◌}
+use Prim.Native.Nat.{ℕ, ◌≤◌, ◌<◌}
 use mathlib.Core.Path.{◌≡◌}
 use mathlib.Core.Bool.{true, ◌||◌}
 use mathlib.Core.List.{List}

@@ -2,6 +2,7 @@
 -- percent and the sag threshold at least 50, so each half-cycle of an interruption begins a sag by itself, and a run that lies in
 -- sags at each half-cycle lies in one of them. Stated over any test, then of any half-cycles, of a recording and of its list.
 -- Assumes nothing.
+use Rattle.std.specs.Prelude.{None}
 use Prim.Native.Nat.{ℕ, zero, suc, ◌+◌, ◌-◌, ◌≤◌, ◌<◌}
 use mathlib.Core.Path.{◌≡◌, refl, ap, ◌∙◌}
 use mathlib.Core.Bool.{Bool, true, false, not}
@@ -12,15 +13,13 @@ use native.Mathlib.Omega.{arith}
 use lib.IntN.{ℤ}
 use Rattle.rules.specs.Bounded.{first_not}
 use Rattle.rules.specs.Recorder.{settings_good}
-use Rattle.rules.specs.Halves.{half_at, halves_of}
+use Rattle.rules.specs.Halves.{Half, half_at, halves_of}
 use Rattle.rules.specs.Events.{in_event, is_run, starts, end_of}
 use Rattle.rules.specs.EventList.{kind_number, event_from, events_of}
 use Rattle.rules.specs.Demands.{Good, ExactlyOne, Contains, SagOver}
 use Rattle.rules.specs.Meanings.{Begins, Keeps}
 use Rattle.rules.specs.declared.Settings.{Settings}
 use Rattle.rules.specs.declared.Sums.{Sums}
-use Rattle.rules.specs.declared.Half.{Half}
-use Rattle.rules.specs.declared.Half.TheVariants.{Unknown}
 use Rattle.rules.specs.declared.Kind.TheVariants.{Sag, Interruption}
 use Rattle.rules.specs.declared.Event.{Event}
 use Rattle.rules.proofs.Booleans.{and_true, not_both, cases}
@@ -106,7 +105,7 @@ module _ (p : ℕ → Bool) (n : ℕ) (past : (k : ℕ) → n ≤ k → p k ≡ 
 
 -- ---- any half-cycles
 
-module _ (s : Settings) (good-settings : settings_good s ≡ true) (h : ℕ → Half) (n : ℕ) (past : (k : ℕ) → n ≤ k → h k ≡ Unknown) where
+module _ (s : Settings) (good-settings : settings_good s ≡ true) (h : ℕ → Half) (n : ℕ) (past : (k : ℕ) → n ≤ k → h k ≡ None) where
   -- THE LAW: each interruption is contained in exactly one sag
   pub in_one_sag : (a : ℕ) → starts s h Interruption a ≡ true → ExactlyOne (Contains s h n Sag a (end_of s h n Interruption a))
   unfolding starts end_of

@@ -1,11 +1,11 @@
 -- What the theorems of the three demands, and the laws that docs/STATEMENTS.md names beside them, speak of besides the rules: what an
 -- accepting check says, in an event told by the half-cycle before, a list in order, what has a score, the largest whole number,
 -- a sag that contains an interruption, places among borders and the cell that takes a sag, recordings offered to a table one after the other, and a sound table.
-use Rattle.std.specs.Prelude.{ℕ, suc, ◌+◌, ◌-◌, ◌*◌, ◌/◌, ◌%◌, ◌≤◌, ◌<◌, ◌≡◌, Bool, true, not, ◌&&◌, ◌||◌, cond, leb, ltb, eqb, ℤ, pos, length, get_or}
+use Rattle.std.specs.Prelude.{ℕ, suc, ◌+◌, ◌-◌, ◌*◌, ◌/◌, ◌%◌, ◌≤◌, ◌<◌, ◌≡◌, Bool, true, not, ◌&&◌, ◌||◌, cond, leb, ltb, eqb, ℤ, pos, length, get_or, Result, Ok, Err, ⊤}
 use mathlib.Core.List.{List, [], ◌∷◌, Memᴰ}
 use Rattle.rules.specs.Bounded.{all, count}
 use Rattle.rules.specs.Recorder.{in_range, settings_good}
-use Rattle.rules.specs.Halves.{of_channel, samples_of, half_at, halves_of, known, full, at_most}
+use Rattle.rules.specs.Halves.{Half, of_channel, samples_of, half_at, halves_of, known, full, at_most}
 use Rattle.rules.specs.Events.{begins, ends, starts, end_of, three}
 use Rattle.rules.specs.EventList.{kind_number, events_of}
 use Rattle.rules.specs.Borders.{Borders, known_set, borders_of, columns_in, cells_in}
@@ -13,14 +13,12 @@ use Rattle.rules.specs.Scores.{is_sag, is_event}
 use Rattle.rules.specs.Site.{is_healthy, is_disturbed, is_unknown, is_placed, is_unplaced, sag_cell, sag_short, sag_shorts, cells, total, most_halves}
 use Rattle.rules.specs.Refusals.{recording_check, by_check, and_then, add_check, added}
 use Rattle.rules.specs.declared.Settings.{Settings}
-use Rattle.rules.specs.declared.Half.{Half}
 use Rattle.rules.specs.declared.Kind.{Kind}
 use Rattle.rules.specs.declared.Kind.TheVariants.{Sag, Interruption, Swell}
 use Rattle.rules.specs.declared.Event.{Event}
 use Rattle.rules.specs.declared.Table.{Table}
 use Rattle.rules.specs.declared.Refusal.TheVariants.{Full}
-use Rattle.rules.specs.declared.Taken.{Taken}
-use Rattle.rules.specs.declared.Taken.TheVariants.{Accepted, Refused}
+use Rattle.rules.specs.declared.Refusal.{Refusal}
 
 -- ---- Demand 1: what a check that accepts says, part by part
 
@@ -161,8 +159,8 @@ taken t [] = []
 taken t (xs ∷ rs) = let rest = taken (added t xs).table rs in by_check (add_check t xs) (xs ∷ rest) (λ r. rest)
 
 -- the check of one recording told with no table: s its settings, n the half-cycles so far
-abbrev pub admits : Settings → ℕ → List ℤ → Taken
-admits s n xs = and_then (recording_check s xs) (cond (ltb most_halves (n + halves_of s xs)) (Refused (Full (most_halves - n))) Accepted)
+abbrev pub admits : Settings → ℕ → List ℤ → Result ⊤ Refusal
+admits s n xs = and_then (recording_check s xs) (cond (ltb most_halves (n + halves_of s xs)) (Err (Full (most_halves - n))) (Ok tt))
 
 -- those that are accepted at their turn, told so
 abbrev pub admitted : Settings → ℕ → List (List ℤ) → List (List ℤ)

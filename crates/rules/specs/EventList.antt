@@ -1,5 +1,5 @@
 -- The event list: eleven numbers an event, in order of start and then kind.
-use Rattle.std.specs.Prelude.{ℕ, ◌+◌, cond, List, [], ◌∷◌, ◌++◌, ℤ}
+use Rattle.std.specs.Prelude.{ℕ, cond, List, [], ◌∷◌, ◌++◌, ℤ}
 use Rattle.rules.specs.Bounded.{join}
 use Rattle.rules.specs.Halves.{of_channel, channels, half_at, halves_of}
 use Rattle.rules.specs.Events.{starts, end_of, seen_of, extreme_of, earliest, retained_of, shorts_of, three, six_sums, type_of}

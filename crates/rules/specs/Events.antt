@@ -1,12 +1,10 @@
 -- Launch, peak and landing of an event. `h` gives each half-cycle by its number, and `n` is how many there are.
-use Rattle.std.specs.Prelude.{ℕ, zero, suc, ◌+◌, ◌-◌, ◌*◌, min, max, Bool, true, false, not, ◌&&◌, ◌||◌, cond, List, [], ◌∷◌, ℤ, ◌-ℤ◌, ◌+ℤ◌, leb, ltb, eqb}
+use Rattle.std.specs.Prelude.{ℕ, zero, suc, ◌+◌, ◌-◌, ◌*◌, min, max, Bool, true, false, not, ◌&&◌, ◌||◌, cond, List, [], ◌∷◌, ℤ, ◌-ℤ◌, ◌+ℤ◌, leb, ltb, eqb, Some, None}
 use Rattle.rules.specs.Bounded.{any, all, bit, sum, before, first_not}
 use Rattle.rules.specs.Recorder.{sample_at}
-use Rattle.rules.specs.Halves.{begin, square, known, full, below, above, at_least, at_most, some_channel, all_channels}
+use Rattle.rules.specs.Halves.{Half, begin, square, known, full, below, above, at_least, at_most, some_channel, all_channels}
 use Rattle.rules.specs.declared.Settings.{Settings}
 use Rattle.rules.specs.declared.Sums.{Sums}
-use Rattle.rules.specs.declared.Half.{Half}
-use Rattle.rules.specs.declared.Half.TheVariants.{Unknown, Known}
 use Rattle.rules.specs.declared.Kind.{Kind}
 use Rattle.rules.specs.declared.Kind.TheVariants.{Sag, Interruption, Swell}
 
@@ -28,12 +26,12 @@ ends_by s Swell v = all_channels (at_most s (s.swell - s.hysteresis)) v
 
 -- an unknown half-cycle does neither
 abbrev pub begins : Settings → Kind → Half → Bool
-begins s k Unknown = false
-begins s k (Known v) = begins_by s k v
+begins s k None = false
+begins s k (Some v) = begins_by s k v
 
 abbrev pub ends : Settings → Kind → Half → Bool
-ends s k Unknown = false
-ends s k (Known v) = ends_by s k v
+ends s k None = false
+ends s k (Some v) = ends_by s k v
 
 -- over any three tests of a half-cycle's number: j begins an event, all half-cycles j to k are known, and there is no m with
 -- j < m and m at most k that ends one
@@ -90,8 +88,8 @@ level_by Interruption v = least v
 level_by Swell v = greatest v
 
 abbrev pub level : Kind → Half → ℕ
-level kind Unknown = 0
-level kind (Known v) = level_by kind v
+level kind None = 0
+level kind (Some v) = level_by kind v
 
 abbrev pub worse : Kind → ℕ → ℕ → ℕ
 worse Sag x y = min x y
@@ -133,8 +131,8 @@ abbrev pub short_of : Settings → ℕ → ℕ
 short_of s S = cond (below s s.sag S) (full s - S) 0
 
 abbrev pub shorts : Settings → Half → Sums
-shorts s Unknown = record { a = 0; b = 0; c = 0 }
-shorts s (Known v) = record { a = short_of s v.a; b = short_of s v.b; c = short_of s v.c }
+shorts s None = record { a = 0; b = 0; c = 0 }
+shorts s (Some v) = record { a = short_of s v.a; b = short_of s v.b; c = short_of s v.c }
 
 -- the sum of f over the half-cycles from start up to and without end
 abbrev pub sum_from : (ℕ → ℕ) → ℕ → ℕ → ℕ

@@ -1,11 +1,9 @@
 -- Half-cycles: which there are, known or unknown, their sums S, and the exact comparisons of V with a percentage of R.
-use Rattle.std.specs.Prelude.{ℕ, zero, suc, ◌+◌, ◌-◌, ◌*◌, ◌/◌, Bool, true, false, not, ◌&&◌, ◌||◌, cond, List, length, ℤ, nat_abs, leb, ltb}
+use Rattle.std.specs.Prelude.{ℕ, zero, suc, ◌+◌, ◌-◌, ◌*◌, ◌/◌, Bool, true, false, not, ◌&&◌, ◌||◌, cond, List, length, ℤ, nat_abs, leb, ltb, Option, Some, None}
 use Rattle.rules.specs.Bounded.{any, sum}
 use Rattle.rules.specs.Recorder.{sample_at, missing}
 use Rattle.rules.specs.declared.Settings.{Settings}
 use Rattle.rules.specs.declared.Sums.{Sums}
-use Rattle.rules.specs.declared.Half.{Half}
-use Rattle.rules.specs.declared.Half.TheVariants.{Unknown, Known}
 
 -- ---- channels: a is 0, b is 1, c is 2
 
@@ -20,6 +18,10 @@ abbrev pub channels : (ℕ → ℕ) → Sums
 channels f = record { a = f 0; b = f 1; c = f 2 }
 
 -- ---- half-cycles
+
+-- its sums, or none where it is unknown
+abbrev pub Half : Type 0
+Half = Option Sums
 
 -- L, samples per channel
 abbrev pub samples_of : List ℤ → ℕ
@@ -50,11 +52,11 @@ sums_at s xs k = channels (squares s xs k)
 
 -- Half-cycle k. One that does not exist is told as unknown: it is in no event, and no end is seen by it.
 unfoldable pub half_at : Settings → List ℤ → ℕ → Half
-half_at s xs k = cond (ltb k (halves_of s xs) && not (any_missing s xs k)) (Known (sums_at s xs k)) Unknown
+half_at s xs k = cond (ltb k (halves_of s xs) && not (any_missing s xs k)) (Some (sums_at s xs k)) None
 
 abbrev pub known : Half → Bool
-known Unknown = false
-known (Known v) = true
+known None = false
+known (Some v) = true
 
 -- ---- V is the root of S/N: no comparison rounds it
 

@@ -1,35 +1,28 @@
 -- What the rules say, as facts of the sums S, the samples, durations, settings and floats, in other words than the tests of the other
 -- files. Of those they use only `of_channel`, and what has laws of its own: `settings_good`, `bad_setting`, `square`, `halves_of`,
 -- `events_of`, `trace_of`, and the tests of the classes. The laws hold each definition to these.
-use Rattle.std.specs.Prelude.{ℕ, zero, suc, ◌+◌, ◌-◌, ◌*◌, ◌/◌, ◌%◌, ◌≤◌, ◌<◌, ◌≡◌, Bool, true, false, ◌||◌, ◌⊎◌, eqb, ℤ, pos, negsuc, nat_abs, ◌-ℤ◌, ◌+ℤ◌, Float, length, get_or}
+use Rattle.std.specs.Prelude.{ℕ, zero, suc, ◌+◌, ◌-◌, ◌*◌, ◌/◌, ◌%◌, ◌≤◌, ◌<◌, ◌≡◌, Bool, true, false, ◌||◌, ◌⊎◌, eqb, ℤ, pos, negsuc, nat_abs, ◌-ℤ◌, ◌+ℤ◌, Float, length, get_or, Result, Ok, Err, Some, ⊤}
 use mathlib.Core.List.{List, Memᴰ}
 use Rattle.std.specs.Float.Ieee.Exact.{HasValue}
 use Rattle.rules.specs.Bounded.{count}
 use Rattle.rules.specs.Recorder.{bad_setting, settings_good}
-use Rattle.rules.specs.Halves.{of_channel, halves_of, square}
+use Rattle.rules.specs.Halves.{Half, of_channel, halves_of, square}
 use Rattle.rules.specs.EventList.{kind_number, events_of}
 use Rattle.rules.specs.Trace.{trace_of}
 use Rattle.rules.specs.Site.{is_healthy, is_disturbed, is_unknown}
 use Rattle.rules.specs.declared.Settings.{Settings}
 use Rattle.rules.specs.declared.Sums.{Sums}
-use Rattle.rules.specs.declared.Half.{Half}
-use Rattle.rules.specs.declared.Half.TheVariants.{Known}
 use Rattle.rules.specs.declared.Kind.{Kind}
 use Rattle.rules.specs.declared.Kind.TheVariants.{Sag, Interruption, Swell}
 use Rattle.rules.specs.declared.Event.{Event}
 use Rattle.rules.specs.declared.Refusal.TheVariants.{Setting, Uneven, Short, Ragged, Long, Sample, Room, Full, Unsound}
-use Rattle.rules.specs.declared.Taken.{Taken}
-use Rattle.rules.specs.declared.Taken.TheVariants.{Accepted, Refused}
-use Rattle.rules.specs.declared.Listed.{Listed}
-use Rattle.rules.specs.declared.Listed.TheVariants.{Events, Turned}
-use Rattle.rules.specs.declared.Traced.{Traced}
-use Rattle.rules.specs.declared.Traced.TheVariants.{Halves, Untraced}
+use Rattle.rules.specs.declared.Refusal.{Refusal}
 
 -- ---- channels
 
 -- P holds of S of some channel, of S of every channel
-abbrev pub Some : Sums → (ℕ → Type 0) → Type 0
-Some v P = (c : ℕ) × (c < 3) × P (of_channel c v)
+abbrev pub SomeChannel : Sums → (ℕ → Type 0) → Type 0
+SomeChannel v P = (c : ℕ) × (c < 3) × P (of_channel c v)
 
 abbrev pub Every : Sums → (ℕ → Type 0) → Type 0
 Every v P = (c : ℕ) → c < 3 → P (of_channel c v)
@@ -42,30 +35,30 @@ percent s p = p * p * s.n * s.r * s.r
 
 -- a channel below the sag threshold; all channels below the interruption threshold; a channel above the swell threshold
 abbrev pub Begins : Settings → Kind → Sums → Type 0
-Begins s Sag v = Some v (λ S. 10000 * S < percent s s.sag)
+Begins s Sag v = SomeChannel v (λ S. 10000 * S < percent s s.sag)
 Begins s Interruption v = Every v (λ S. 10000 * S < percent s s.interruption)
-Begins s Swell v = Some v (λ S. percent s s.swell < 10000 * S)
+Begins s Swell v = SomeChannel v (λ S. percent s s.swell < 10000 * S)
 
 -- all channels at or above sag threshold plus hysteresis; some channel at or above interruption threshold plus hysteresis; all
 -- channels at or below swell threshold minus hysteresis
 abbrev pub Ends : Settings → Kind → Sums → Type 0
 Ends s Sag v = Every v (λ S. percent s (s.sag + s.hysteresis) ≤ 10000 * S)
-Ends s Interruption v = Some v (λ S. percent s (s.interruption + s.hysteresis) ≤ 10000 * S)
+Ends s Interruption v = SomeChannel v (λ S. percent s (s.interruption + s.hysteresis) ≤ 10000 * S)
 Ends s Swell v = Every v (λ S. 10000 * S ≤ percent s (s.swell - s.hysteresis))
 
 -- one channel still below sag threshold plus hysteresis; all channels still below interruption threshold plus hysteresis; one
 -- channel still above swell threshold minus hysteresis
 abbrev pub Keeps : Settings → Kind → Sums → Type 0
-Keeps s Sag v = Some v (λ S. 10000 * S < percent s (s.sag + s.hysteresis))
+Keeps s Sag v = SomeChannel v (λ S. 10000 * S < percent s (s.sag + s.hysteresis))
 Keeps s Interruption v = Every v (λ S. 10000 * S < percent s (s.interruption + s.hysteresis))
-Keeps s Swell v = Some v (λ S. percent s (s.swell - s.hysteresis) < 10000 * S)
+Keeps s Swell v = SomeChannel v (λ S. percent s (s.swell - s.hysteresis) < 10000 * S)
 
 -- in an event at k: some j up to k exists that begins one, all half-cycles j to k are known, and there is no m with j < m and m
 -- at most k that ends it
 abbrev pub Inside : Settings → (ℕ → Half) → Kind → ℕ → Type 0
 Inside s h kind k =
-    (j : ℕ) × (v : Sums) × (j ≤ k) × (h j ≡ Known v) × Begins s kind v
-    × ((m : ℕ) → j < m → m ≤ k → (w : Sums) × (h m ≡ Known w) × (Ends s kind w → ⊥))
+    (j : ℕ) × (v : Sums) × (j ≤ k) × (h j ≡ Some v) × Begins s kind v
+    × ((m : ℕ) → j < m → m ≤ k → (w : Sums) × (h m ≡ Some w) × (Ends s kind w → ⊥))
 
 -- ---- extreme
 
@@ -79,12 +72,12 @@ AsBad Swell x y = y ≤ x
 -- and of each channel, and is one of those
 abbrev pub IsExtreme : Kind → (ℕ → Sums) → ℕ → ℕ → ℕ → Type 0
 IsExtreme kind v a b x =
-    ((k : ℕ) → a ≤ k → k < b → Every (v k) (λ S. AsBad kind x S)) × ((k : ℕ) × (a ≤ k) × (k < b) × Some (v k) (λ S. S ≡ x))
+    ((k : ℕ) → a ≤ k → k < b → Every (v k) (λ S. AsBad kind x S)) × ((k : ℕ) × (a ≤ k) × (k < b) × SomeChannel (v k) (λ S. S ≡ x))
 
 -- k is the earliest of them at which x occurs
 abbrev pub IsEarliest : (ℕ → Sums) → ℕ → ℕ → ℕ → ℕ → Type 0
 IsEarliest v a b x k =
-    (a ≤ k) × (k < b) × Some (v k) (λ S. S ≡ x) × ((m : ℕ) → a ≤ m → m < k → Every (v m) (λ S. S ≡ x → ⊥))
+    (a ≤ k) × (k < b) × SomeChannel (v k) (λ S. S ≡ x) × ((m : ℕ) → a ≤ m → m < k → Every (v m) (λ S. S ≡ x → ⊥))
 
 -- ---- sag type
 
@@ -164,46 +157,46 @@ HasHalves s xs H = length xs ≡ 3 * (suc H * (s.n / 2))
 
 -- an answer of the checks 2 to 6 is given exactly if: length not a multiple of 3; fewer than N samples per channel; L not a
 -- multiple of N/2; H above 100,000; a sample out of range, the first in the run; none of these
-abbrev pub Given : Settings → List ℤ → Taken → Type 0
-Given s xs (Refused Uneven) = (L : ℕ) → length xs ≡ 3 * L → ⊥
-Given s xs (Refused Short) = (L : ℕ) × (length xs ≡ 3 * L) × (L < s.n)
-Given s xs (Refused Ragged) = (L : ℕ) × (length xs ≡ 3 * L) × (s.n ≤ L) × ((q : ℕ) → L ≡ q * (s.n / 2) → ⊥)
-Given s xs (Refused Long) = (H : ℕ) × HasHalves s xs H × (100000 < H)
-Given s xs (Refused (Sample i)) =
+abbrev pub Given : Settings → List ℤ → Result ⊤ Refusal → Type 0
+Given s xs (Err Uneven) = (L : ℕ) → length xs ≡ 3 * L → ⊥
+Given s xs (Err Short) = (L : ℕ) × (length xs ≡ 3 * L) × (L < s.n)
+Given s xs (Err Ragged) = (L : ℕ) × (length xs ≡ 3 * L) × (s.n ≤ L) × ((q : ℕ) → L ≡ q * (s.n / 2) → ⊥)
+Given s xs (Err Long) = (H : ℕ) × HasHalves s xs H × (100000 < H)
+Given s xs (Err (Sample i)) =
     (H : ℕ) × HasHalves s xs H × (0 < H) × (H ≤ 100000)
     × (i < length xs) × (InRange (get_or xs i (pos 0)) → ⊥) × ((j : ℕ) → j < i → InRange (get_or xs j (pos 0)))
-Given s xs Accepted =
+Given s xs (Ok _) =
     (H : ℕ) × HasHalves s xs H × (0 < H) × (H ≤ 100000) × ((i : ℕ) → i < length xs → InRange (get_or xs i (pos 0)))
-Given s xs (Refused (Setting i)) = ⊥
-Given s xs (Refused (Room n)) = ⊥
-Given s xs (Refused (Full n)) = ⊥
-Given s xs (Refused Unsound) = ⊥
+Given s xs (Err (Setting i)) = ⊥
+Given s xs (Err (Room n)) = ⊥
+Given s xs (Err (Full n)) = ⊥
+Given s xs (Err Unsound) = ⊥
 
 -- an answer of the list is given exactly if: settings and recording are accepted, n is the number of events and 11 x n is not
 -- above the room; or a setting is out of its range, and the refusal is that; or the recording has it; or both are accepted and
 -- the room is below 11 x number of events, which is its place
-abbrev pub Answered : Settings → List ℤ → ℕ → Listed → Type 0
-Answered s xs room (Events n) =
-    (settings_good s ≡ true) × Given s xs Accepted × (n ≡ length (events_of s xs)) × (11 * n ≤ room)
-Answered s xs room (Turned r) =
+abbrev pub Answered : Settings → List ℤ → ℕ → Result ℕ Refusal → Type 0
+Answered s xs room (Ok n) =
+    (settings_good s ≡ true) × Given s xs (Ok tt) × (n ≡ length (events_of s xs)) × (11 * n ≤ room)
+Answered s xs room (Err r) =
     ((settings_good s ≡ false) × (r ≡ Setting (bad_setting s)))
-    ⊎ (((settings_good s ≡ true) × Given s xs (Refused r))
-    ⊎ ((settings_good s ≡ true) × Given s xs Accepted × (r ≡ Room (length (events_of s xs))) × (room < 11 * length (events_of s xs))))
+    ⊎ (((settings_good s ≡ true) × Given s xs (Err r))
+    ⊎ ((settings_good s ≡ true) × Given s xs (Ok tt) × (r ≡ Room (length (events_of s xs))) × (room < 11 * length (events_of s xs))))
 
 -- an answer of a call that writes n things, of so many numbers each, into a lent run is given exactly if: settings and recording are
 -- accepted, and what it writes is not above the room; or a setting is out of its range, and the refusal is that; or the recording has
 -- it; or both are accepted and the room is below what it writes, and the place is n
-abbrev pub Checked : Settings → List ℤ → (size n room : ℕ) → Taken → Type 0
-Checked s xs size n room Accepted = (settings_good s ≡ true) × Given s xs Accepted × (size * n ≤ room)
-Checked s xs size n room (Refused r) =
+abbrev pub Checked : Settings → List ℤ → (size n room : ℕ) → Result ⊤ Refusal → Type 0
+Checked s xs size n room (Ok _) = (settings_good s ≡ true) × Given s xs (Ok tt) × (size * n ≤ room)
+Checked s xs size n room (Err r) =
     ((settings_good s ≡ false) × (r ≡ Setting (bad_setting s)))
-    ⊎ (((settings_good s ≡ true) × Given s xs (Refused r))
-    ⊎ ((settings_good s ≡ true) × Given s xs Accepted × (r ≡ Room n) × (room < size * n)))
+    ⊎ (((settings_good s ≡ true) × Given s xs (Err r))
+    ⊎ ((settings_good s ≡ true) × Given s xs (Ok tt) × (r ≡ Room n) × (room < size * n)))
 
 -- an answer of the call that tells each half-cycle: H, five numbers each
-abbrev pub Told : Settings → List ℤ → ℕ → Traced → Type 0
-Told s xs room (Halves n) = HasHalves s xs n × Checked s xs 5 n room Accepted
-Told s xs room (Untraced r) = Checked s xs 5 (halves_of s xs) room (Refused r)
+abbrev pub Told : Settings → List ℤ → ℕ → Result ℕ Refusal → Type 0
+Told s xs room (Ok n) = HasHalves s xs n × Checked s xs 5 n room (Ok tt)
+Told s xs room (Err r) = Checked s xs 5 (halves_of s xs) room (Err r)
 
 -- ---- half-cycles told
 

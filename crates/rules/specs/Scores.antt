@@ -1,5 +1,5 @@
 -- Scores: the test of an event, the reasons in their order, severity and energy.
-use Rattle.std.specs.Prelude.{ℕ, ◌-◌, ◌*◌, ◌/◌, Bool, not, ◌&&◌, cond, pos, leb, ltb, eqb, Float}
+use Rattle.std.specs.Prelude.{ℕ, ◌-◌, ◌*◌, ◌/◌, Bool, not, ◌&&◌, cond, pos, leb, ltb, eqb, Float, Result, Ok, Err, Option, Some, None}
 use Rattle.std.specs.Float.{binary64}
 use Rattle.std.specs.Float.Ieee.{div, of_int}
 use Rattle.rules.specs.Recorder.{within, settings_good}
@@ -9,8 +9,8 @@ use Rattle.rules.specs.Borders.{known_set}
 use Rattle.rules.specs.declared.Settings.{Settings}
 use Rattle.rules.specs.declared.Event.{Event}
 use Rattle.rules.specs.declared.Score.{Score}
-use Rattle.rules.specs.declared.Scoring.{Scoring}
-use Rattle.rules.specs.declared.Scoring.TheVariants.{Scored, Unscored}
+use Rattle.rules.specs.declared.Reason.{Reason}
+use Rattle.rules.specs.declared.Reason.TheVariants.{StartUnseen, EndUnseen, BothUnseen, NotASag, NotAnEvent, BadSettings}
 
 -- ---- "not an event": what holds of one of any kind, of a sag, of another kind
 
@@ -41,20 +41,40 @@ is_event s e =
 
 -- ---- reasons
 
--- 1 only the start unseen, 2 only the end unseen, 3 both; 0 is no reason
-abbrev pub unseen_of : ℕ → ℕ
-unseen_of seen = cond (eqb seen 3) 0 (cond (eqb seen 2) 1 (cond (eqb seen 1) 2 3))
+abbrev pub number_of_reason : Reason → ℕ
+number_of_reason StartUnseen = 1
+number_of_reason EndUnseen = 2
+number_of_reason BothUnseen = 3
+number_of_reason NotASag = 4
+number_of_reason NotAnEvent = 5
+number_of_reason BadSettings = 6
+
+-- 0 is no reason
+abbrev pub reason_number : Option Reason → ℕ
+reason_number None = 0
+reason_number (Some r) = number_of_reason r
+
+-- 1 only the start unseen, 2 only the end unseen, 3 both
+abbrev pub unseen_of : ℕ → Option Reason
+unseen_of seen = cond (eqb seen 3) None (Some (cond (eqb seen 2) StartUnseen (cond (eqb seen 1) EndUnseen BothUnseen)))
 
 -- in this order: 6 settings bad; 5 not an event; 4 not a sag; then 1, 2, 3
-unfoldable pub reason_of : Settings → Event → ℕ
-reason_of s e =
-    cond (not (settings_good s)) 6
-    (cond (not (is_event s e)) 5
-    (cond (not (is_sag e)) 4 (unseen_of e.seen)))
+unfoldable pub why_of : Settings → Event → Option Reason
+why_of s e =
+    cond (not (settings_good s)) (Some BadSettings)
+    (cond (not (is_event s e)) (Some NotAnEvent)
+    (cond (not (is_sag e)) (Some NotASag) (unseen_of e.seen)))
 
 -- as a host is told that hands over a set of borders too: No. 9 of document 02 has an unknown one be reason 6
+unfoldable pub why_by : Settings → ℕ → Event → Option Reason
+why_by s set e = cond (known_set set) (why_of s e) (Some BadSettings)
+
+-- and as numbers
+unfoldable pub reason_of : Settings → Event → ℕ
+reason_of s e = reason_number (why_of s e)
+
 unfoldable pub reason_by : Settings → ℕ → Event → ℕ
-reason_by s set e = cond (known_set set) (reason_of s e) 6
+reason_by s set e = reason_number (why_by s set e)
 
 -- ---- the score
 
@@ -86,14 +106,13 @@ score_of s e =
     }
 
 -- a score is either two floats, or a reason and no floats
-unfoldable pub scoring : Settings → Event → Scoring
-scoring s e = cond (eqb (reason_of s e) 0) (Scored (score_of s e)) (Unscored (reason_of s e))
+abbrev pub given_unless : Option Reason → Score → Result Score Reason
+given_unless None x = Ok x
+given_unless (Some r) x = Err r
+
+unfoldable pub scoring : Settings → Event → Result Score Reason
+scoring s e = given_unless (why_of s e) (score_of s e)
 
 -- as a host is told that hands over a set of borders too
-unfoldable pub scoring_by : Settings → ℕ → Event → Scoring
-scoring_by s set e = cond (known_set set) (scoring s e) (Unscored 6)
-
--- the reason's number of an answer: 0 where scored
-abbrev pub reason_number : Scoring → ℕ
-reason_number (Scored x) = 0
-reason_number (Unscored k) = k
+unfoldable pub scoring_by : Settings → ℕ → Event → Result Score Reason
+scoring_by s set e = given_unless (why_by s set e) (score_of s e)

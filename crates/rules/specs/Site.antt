@@ -2,13 +2,12 @@
 use Rattle.std.specs.Prelude.{ℕ, suc, ◌+◌, ◌-◌, ◌*◌, Bool, not, ◌&&◌, ◌||◌, cond, List, [], ◌∷◌, replicate, get_or, ℤ, ltb, eqb}
 use Rattle.rules.specs.Bounded.{all, count, sum}
 use Rattle.rules.specs.Recorder.{settings_good}
-use Rattle.rules.specs.Halves.{of_channel, channels, squares, half_at, halves_of, known, full}
+use Rattle.rules.specs.Halves.{Half, of_channel, channels, squares, half_at, halves_of, known, full}
 use Rattle.rules.specs.Events.{in_event, starts, end_of, start_seen, end_seen, extreme_of, short_of, make_up}
 use Rattle.rules.specs.EventList.{event_from}
 use Rattle.rules.specs.Borders.{Borders, known_set, borders_of, cells_in, cell_at}
 use Rattle.rules.specs.Scores.{reason_by}
 use Rattle.rules.specs.declared.Settings.{Settings}
-use Rattle.rules.specs.declared.Half.{Half}
 use Rattle.rules.specs.declared.Kind.TheVariants.{Sag, Interruption, Swell}
 use Rattle.rules.specs.declared.Event.{Event}
 use Rattle.rules.specs.declared.Table.{Table}

@@ -1,14 +1,12 @@
 -- Each half-cycle told: five numbers, in order. No rule of the documents asks for it; its words are those of the half-cycles, of the
 -- events and of the site table.
-use Rattle.std.specs.Prelude.{ℕ, ◌+◌, ◌*◌, List, [], ◌∷◌, ℤ}
+use Rattle.std.specs.Prelude.{ℕ, ◌+◌, ◌*◌, List, [], ◌∷◌, ℤ, Some, None}
 use Rattle.rules.specs.Bounded.{bit, join}
-use Rattle.rules.specs.Halves.{channels, half_at, halves_of}
+use Rattle.rules.specs.Halves.{Half, channels, half_at, halves_of}
 use Rattle.rules.specs.Events.{in_event}
 use Rattle.rules.specs.Site.{is_healthy, is_disturbed, is_unknown}
 use Rattle.rules.specs.declared.Settings.{Settings}
 use Rattle.rules.specs.declared.Sums.{Sums}
-use Rattle.rules.specs.declared.Half.{Half}
-use Rattle.rules.specs.declared.Half.TheVariants.{Unknown, Known}
 use Rattle.rules.specs.declared.Kind.TheVariants.{Sag, Interruption, Swell}
 
 -- how many numbers a half-cycle has
@@ -25,8 +23,8 @@ kinds_at s h k = 1 * bit (in_event s h Sag k) + 2 * bit (in_event s h Interrupti
 
 -- S of a, b and c, 0 where unknown
 abbrev pub sums_told : Half → Sums
-sums_told Unknown = channels (λ c. 0)
-sums_told (Known v) = v
+sums_told None = channels (λ c. 0)
+sums_told (Some v) = v
 
 -- the five numbers of half-cycle k
 unfoldable pub half_words : Settings → List ℤ → ℕ → List ℕ

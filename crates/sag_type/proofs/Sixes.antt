@@ -1,56 +1,44 @@
--- Lists of six: written out, their two ends, how large what is made of them can be, and that a window's six are the rules'.
+-- Lists of six: their two ends, the first that equals a number, how large what is made of them can be, and that a window's six are the rules'.
 -- Assumes nothing.
 use Prim.Native.Nat.{ℕ, zero, suc, ◌+◌, ◌*◌, ◌≤◌, ◌<◌, min, max}
-use mathlib.Core.Path.{◌≡◌, refl}
-use mathlib.Core.Bool.{Bool, true, false, cond}
-use mathlib.Core.List.{List, [], ◌∷◌}
+use mathlib.Core.Path.{◌≡◌, refl, sym, ap, ◌∙◌}
+use mathlib.Core.Bool.{cond}
+use mathlib.Core.List.{List, [], ◌∷◌, ◌++◌}
 use native.Mathlib.Omega.{arith}
 use native.Mathlib.Nat.{mul-le-mul}
-use lib.IntN.{ℤ, nat_abs, ◌-ℤ◌}
-use lib.ListN.{length, get_or, drop, length-drop, drop_of_length-le}
-use lib.Seq.{drop-cons}
+use lib.IntN.{ℤ, pos, nat_abs, ◌-ℤ◌}
+use lib.ListN.{length, get_or, drop, length-drop, length-append, get_or-append}
+use lib.Seq.{drop-cons, drop-drop, drop-append_seam}
+use Rattle.std.proofs.lemmas.List.{get_or-drop}
+use lib.Dec.{eqb}
+use native.Mathlib.Numerals.{add-one}
 use Rattle.rules.specs.Recorder.{sample_at}
 use Rattle.rules.specs.Halves.{samples_of, square, begin}
-use Rattle.rules.specs.Events.{twice, six_parts, plus, six_below, six_sums, smallest, largest}
+use Rattle.rules.specs.Events.{twice, six_parts, plus, six_below, six_sums, smallest, largest, number_of_first}
 use Rattle.rules.specs.declared.Settings.{Settings}
 use Rattle.halves.specs.Steps.{window, Low}
 use Rattle.halves.proofs.Parts.{part-samples, sample_is}
 use Rattle.sag_type.specs.Six.{six_up_to, six_in, Sixes}
 use Rattle.sag_type.proofs.Signed.{abs_add, abs_sub}
 
-pub six_is : (six : List ℕ) → length six ≡ 6
-    → six ≡ get_or six 0 0 ∷ get_or six 1 0 ∷ get_or six 2 0 ∷ get_or six 3 0 ∷ get_or six 4 0 ∷ get_or six 5 0 ∷ []
-six_is [] h = absurd (omega arith)
-six_is (a ∷ []) h = absurd (omega arith)
-six_is (a ∷ b ∷ []) h = absurd (omega arith)
-six_is (a ∷ b ∷ c ∷ []) h = absurd (omega arith)
-six_is (a ∷ b ∷ c ∷ d ∷ []) h = absurd (omega arith)
-six_is (a ∷ b ∷ c ∷ d ∷ e ∷ []) h = absurd (omega arith)
-six_is (a ∷ b ∷ c ∷ d ∷ e ∷ f ∷ []) h = refl
-six_is (a ∷ b ∷ c ∷ d ∷ e ∷ f ∷ g ∷ more) h = absurd (omega arith)
+-- ---- both ends, and the first that equals v, a number at a time
 
--- the number of the last is the same whether it equals v or not
-pub either : (b : Bool) → cond {A = ℕ} b 1 1 ≡ 1
-either true = refl
-either false = refl
-
--- ---- both ends, a number at a time from the last
-
-pub ends_last : (xs : List ℕ) (i : ℕ) → length xs ≡ suc i → (get_or xs i 0 ≡ smallest (drop i xs)) × (get_or xs i 0 ≡ largest (drop i xs))
-ends_last xs i e =
-    let inside : i < length xs = omega arith in
-    let none : drop (suc i) xs ≡ [] = drop_of_length-le xs {i = suc i} (omega arith) in
-    rw (drop-cons xs i 0, none) (refl, refl)
-
-pub ends_more : (xs : List ℕ) (i : ℕ) → suc i < length xs
-    → (smallest (drop i xs) ≡ min (get_or xs i 0) (smallest (drop (suc i) xs))) × (largest (drop i xs) ≡ max (get_or xs i 0) (largest (drop (suc i) xs)))
-ends_more xs i l =
-    let inside : i < length xs = omega arith in
-    rw (drop-cons xs i 0) (more (drop (suc i) xs) (simp length-drop (omega arith)))
+pub smallest_on : (a : ℕ) (xs : List ℕ) (i : ℕ) → i < length xs → smallest (min a (get_or xs i 0) ∷ drop (i + 1) xs) ≡ smallest (a ∷ drop i xs)
+smallest_on a xs i l = rw (drop-cons xs i 0 l, add-one) (on (get_or xs i 0) (drop (suc i) xs))
   where
-    more : (ys : List ℕ) → 0 < length ys → (smallest (get_or xs i 0 ∷ ys) ≡ min (get_or xs i 0) (smallest ys)) × (largest (get_or xs i 0 ∷ ys) ≡ max (get_or xs i 0) (largest ys))
-    more [] h = absurd (omega arith)
-    more (y ∷ ys) h = (refl, refl)
+    on : (x : ℕ) (ys : List ℕ) → smallest (min a x ∷ ys) ≡ smallest (a ∷ x ∷ ys)
+    on x [] = refl
+    on x (y ∷ ys) = omega arith
+
+pub largest_on : (a : ℕ) (xs : List ℕ) (i : ℕ) → i < length xs → largest (max a (get_or xs i 0) ∷ drop (i + 1) xs) ≡ largest (a ∷ drop i xs)
+largest_on a xs i l = rw (drop-cons xs i 0 l, add-one) (on (get_or xs i 0) (drop (suc i) xs))
+  where
+    on : (x : ℕ) (ys : List ℕ) → largest (max a x ∷ ys) ≡ largest (a ∷ x ∷ ys)
+    on x [] = refl
+    on x (y ∷ ys) = omega arith
+
+pub first_on : (v : ℕ) (xs : List ℕ) (i : ℕ) → i < length xs → number_of_first (drop i xs) v ≡ cond (eqb (get_or xs i 0) v) 1 (suc (number_of_first (drop (i + 1) xs) v))
+first_on v xs i l = rw (drop-cons xs i 0 l, add-one) refl
 
 -- ---- bounds
 
@@ -121,3 +109,20 @@ module _ (s : Settings) (xs : List ℤ) (k : ℕ) (fits : 3 * begin s k + 3 * s.
       rw (part-samples xs (begin s k) s.n fits)
       (six_same _ _ s.n
       (λ i l. rw (sample_is xs (begin s k) s.n fits 0 i (omega arith) l, sample_is xs (begin s k) s.n fits 1 i (omega arith) l, sample_is xs (begin s k) s.n fits 2 i (omega arith) l)))
+
+-- ---- the samples of a window, three numbers at a time: those left begin with the k-th three
+
+module _ (w three rest : List ℤ) (k : ℕ) (left : drop (3 * k) w ≡ three ++ rest) (are_three : length three ≡ 3) where
+  pub sample_in : (c : ℕ) → c < 3 → get_or three c (pos 0) ≡ sample_at w c k
+  sample_in c l = sym (get_or-append three rest (pos 0) c (omega arith)) ∙ ap (λ (xs : List ℤ). get_or xs c (pos 0)) (sym left) ∙ get_or-drop (3 * k) w c (pos 0)
+
+  pub rest_in : rest ≡ drop (3 * (k + 1)) w
+  rest_in =
+      let seam : drop 3 (three ++ rest) ≡ rest = rw (sym are_three) (drop-append_seam three rest) in
+      let on : 3 * (k + 1) ≡ 3 * k + 3 = omega arith in
+      sym seam ∙ ap (λ (xs : List ℤ). drop 3 xs) (sym left) ∙ drop-drop 3 (3 * k) w ∙ ap (λ n. drop n w) (sym on)
+
+  pub more_samples : k + 1 ≤ samples_of w
+  more_samples =
+      let many : length (drop (3 * k) w) ≡ length three + length rest = rw left (length-append three rest) in
+      omega (arith, many, length-drop (3 * k) w)

@@ -1,18 +1,15 @@
 // The type of a sag: six sums over the samples of one half-cycle, and which of them is the smallest.
 #![tactic(auto)]
 
-ghost use Rattle.std.specs.Prelude.{◌≡◌, true, ◌*◌, ◌≤◌, nat_abs, ◌-ℤ◌, length};
-ghost use Rattle.rules.specs.Recorder.{settings_good};
+ghost use Rattle.std.specs.Prelude.{◌≡◌, true, ◌*◌, ◌≤◌, nat_abs, ◌-ℤ◌, length, Ok};
 ghost use Rattle.rules.specs.Halves.{square, known, half_at};
 ghost use Rattle.rules.specs.Events.{twice, six_parts, plus, six_sums, number_of_first, type_of};
 ghost use Rattle.rules.specs.Refusals.{recording_check};
-ghost use Rattle.rules.specs.declared.Taken.TheVariants.{Accepted};
 ghost use Rattle.halves.specs.Steps.{Low};
 ghost use Rattle.sag_type.specs.Six.{six_in, Sixes, ends_of};
 
-use halves::{square, window_at};
-use numbers::{add_each, max, min};
-use rules::Settings;
+use halves::{Recording, square, window_at};
+use numbers::add_each;
 
 // The smallest and the largest of six.
 #[derive(Clone, Copy)]
@@ -68,28 +65,23 @@ fn six_of(w: &[i32]) -> [u64; 6]
     requires low { Low w.now }
     ensures { result ≡ six_in w.now }
 {
-    let n = w.len() / 3;
     let mut six = [0; 6];
-    let mut i: usize = 0;
-    while i < n {
-        let next = add_six(six, six_parts(w[3 * i], w[3 * i + 1], w[3 * i + 2]));
+    for sample in w.chunks_exact(3) {
+        let next = add_six(six, six_parts(sample[0], sample[1], sample[2]));
         six = next;
-        i += 1;
     }
     six
 }
 
-// Both ends of the six, in one pass from the last to the first.
+// Both ends of the six.
 fn ends_of(six: [u64; 6]) -> Ends
     ensures { result ≡ ends_of six }
 {
-    let mut low = six[5];
-    let mut high = six[5];
-    let mut i: usize = 5;
-    while 0 < i {
-        i -= 1;
-        low = min(six[i], low);
-        high = max(six[i], high);
+    let mut low = six[0];
+    let mut high = six[0];
+    for x in &six[1..] {
+        low = low.min(*x);
+        high = high.max(*x);
     }
     Ends { low, high }
 }
@@ -98,19 +90,12 @@ fn ends_of(six: [u64; 6]) -> Ends
 fn number_of_first(six: [u64; 6], v: u64) -> u64
     ensures { result ≡ number_of_first six v }
 {
-    if six[0] == v {
-        1
-    } else if six[1] == v {
-        2
-    } else if six[2] == v {
-        3
-    } else if six[3] == v {
-        4
-    } else if six[4] == v {
-        5
-    } else {
-        6
+    for (i, x) in six.iter().enumerate() {
+        if *x == v {
+            return i as u64 + 1;
+        }
     }
+    6
 }
 
 // 0 (A) where the six are nearly equal, else the number of the first smallest: Da, Db, Dc, Ca, Cb, Cc.
@@ -126,9 +111,9 @@ fn sag_type(six: [u64; 6]) -> u64
 }
 
 // The sag type by half-cycle k, which is known: six sums over its samples, held together as one array of six.
-pub fn type_at(s: Settings, samples: &[i32], k: u64) -> u64
-    requires { (settings_good s ≡ true) × (recording_check s samples.now ≡ Accepted) × (known (half_at s samples.now k) ≡ true) }
-    ensures { result ≡ type_of (six_sums s samples.now k) }
+pub fn type_at(recording: &Recording, k: u64) -> u64
+    requires { (recording_check recording.now.settings recording.now.samples.now ≡ Ok tt) × (known (half_at recording.now.settings recording.now.samples.now k) ≡ true) }
+    ensures { result ≡ type_of (six_sums recording.now.settings recording.now.samples.now k) }
 {
-    sag_type(six_of(window_at(s, samples, k)))
+    sag_type(six_of(window_at(recording.settings, recording.samples, k)))
 }

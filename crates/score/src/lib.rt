@@ -4,22 +4,15 @@
 ghost use Rattle.std.specs.Prelude.{◌≡◌, true, ◌+◌, ◌*◌, ◌≤◌, ◌<◌};
 ghost use Rattle.rules.specs.Recorder.{settings_good};
 ghost use Rattle.rules.specs.Events.{retained_of};
-ghost use Rattle.rules.specs.Scores.{in_bounds, sag_good, is_event, reason_of, reason_by, curve_of, severity_of, energy_of, score_of, scoring_by};
+ghost use Rattle.rules.specs.Scores.{in_bounds, sag_good, is_event, why_of, why_by, curve_of, severity_of, energy_of, score_of, scoring_by};
 ghost use Rattle.rules.specs.Demands.{IsDown, half_or_more};
 ghost use Rattle.rules.specs.Site.{cell_of};
 ghost use Rattle.score.specs.Newton.{NotBelow, First, Nearer};
 
 use borders::{cell_at, known_set, not_scored};
-use checks::full_of;
+use checks::{full_of, settings_good};
 use numbers::adds_up;
-use rules::{Event, Score, Scoring, Settings};
-
-// Whether every setting is in its range.
-fn settings_good(s: Settings) -> bool
-    ensures { result ≡ settings_good s }
-{
-    checks::first_bad_setting(s) == 0
-}
+use rules::{Event, Reason, Score, Settings};
 
 // A first guess at the root of q: one of Newton's steps from the power of two with half of q's digits, so that its division is a shift.
 fn first_guess(q: u64) -> u64
@@ -69,27 +62,32 @@ pub fn retained(s: Settings, extreme: u64) -> u64
 }
 
 // Whether each number of an event of any kind is in its range.
+#[tactic(auto, unfolding(rules::specs::Scores::in_bounds))]
 fn in_bounds(s: Settings, e: Event) -> bool
     requires { settings_good s ≡ true }
     ensures { result ≡ in_bounds s e }
 {
-    let kind = (1 <= e.kind) & (e.kind <= 3);
-    let most = s.n * 10000000000;
-    kind & (e.start < e.end) & (e.end <= 100000) & (e.seen <= 3) & (e.extreme <= most)
+    1 <= e.kind
+        && e.kind <= 3
+        && e.start < e.end
+        && e.end <= 100000
+        && e.seen <= 3
+        && e.extreme <= s.n * 10000000000
 }
 
 // What holds of a sag besides.
+#[tactic(auto, unfolding(rules::specs::Scores::sag_good, rules::specs::Halves::below))]
 fn sag_good(s: Settings, e: Event) -> bool
     requires { (settings_good s ≡ true) × (in_bounds s e ≡ true) }
     ensures { result ≡ sag_good s e }
 {
     let m = full_of(s);
     let h = e.end - e.start;
-    let below = 10000 * e.extreme < s.sag * s.sag * m;
-    below & (e.shortfall <= 3 * m * h) & (e.class <= 6)
+    10000 * e.extreme < s.sag * s.sag * m && e.shortfall <= 3 * m * h && e.class <= 6
 }
 
 // Whether the eleven numbers are an event.
+#[tactic(auto, unfolding(rules::specs::Scores::is_event))]
 fn is_event(s: Settings, e: Event) -> bool
     requires { settings_good s ≡ true }
     ensures { result ≡ is_event s e }
@@ -97,39 +95,44 @@ fn is_event(s: Settings, e: Event) -> bool
     if !in_bounds(s, e) {
         return false;
     }
-    let parts = e.parts;
-    let made_up = adds_up(e.shortfall, parts.a, parts.b, parts.c);
-    let kept = (e.retained == retained(s, e.extreme)) & made_up;
-    if e.kind == 1 {
-        return kept & sag_good(s, e);
-    }
-    kept & ((e.shortfall == 0) & (e.class == 0))
+    let made_up = adds_up(e.shortfall, e.parts.a, e.parts.b, e.parts.c);
+    let by_kind = if e.kind == 1 {
+        sag_good(s, e)
+    } else {
+        e.shortfall == 0 && e.class == 0
+    };
+    e.retained == retained(s, e.extreme) && made_up && by_kind
 }
 
-// Why the event has no score, whatever the borders: 0 where it has one. Of a sag it is what is unseen, 1 for the start plus 2 for the end.
-fn reason_of(s: Settings, e: Event) -> u64
-    ensures { result ≡ reason_of s e }
+// Why the event has no score, whatever the borders.
+#[tactic(auto, unfolding(rules::specs::Scores::why_of))]
+fn reason_of(s: Settings, e: Event) -> Option<Reason>
+    ensures { result ≡ why_of s e }
 {
-    let sag = e.kind == 1;
-    let seen = e.seen;
     if !settings_good(s) {
-        return 6;
+        return Some(Reason::BadSettings);
     }
     if !is_event(s, e) {
-        return 5;
+        return Some(Reason::NotAnEvent);
     }
-    if !sag {
-        return 4;
+    if e.kind != 1 {
+        return Some(Reason::NotASag);
     }
-    3 - seen
+    match e.seen {
+        3 => None,
+        2 => Some(Reason::StartUnseen),
+        1 => Some(Reason::EndUnseen),
+        _ => Some(Reason::BothUnseen),
+    }
 }
 
-// Why the event has no score under a set of borders: an unknown one is reason 6.
-pub fn reason(s: Settings, set: u64, e: Event) -> u64
-    ensures { result ≡ reason_by s set e }
+// Why the event has no score under a set of borders: an unknown one is as bad settings.
+#[tactic(auto, unfolding(rules::specs::Scores::why_by))]
+pub fn reason(s: Settings, set: u64, e: Event) -> Option<Reason>
+    ensures { result ≡ why_by s set e }
 {
     if !known_set(set) {
-        return 6;
+        return Some(Reason::BadSettings);
     }
     reason_of(s, e)
 }
@@ -176,7 +179,7 @@ fn energy(s: Settings, shortfall: u64) -> f64
 
 // The score of an event that has one.
 fn scored(s: Settings, e: Event) -> Score
-    requires { reason_of s e ≡ 0 }
+    requires { why_of s e ≡ None }
     ensures { result ≡ score_of s e }
 {
     let severity = severity(e.retained, curve(s.f, e.end - e.start));
@@ -185,22 +188,23 @@ fn scored(s: Settings, e: Event) -> Score
 }
 
 // The score of an event, or the reason why there is none, under a set of borders.
-pub fn score_of(s: Settings, set: u64, e: Event) -> Scoring
+#[tactic(auto, unfolding(rules::specs::Scores::scoring_by))]
+pub fn score_of(s: Settings, set: u64, e: Event) -> Result<Score, Reason>
     ensures { result ≡ scoring_by s set e }
 {
-    let why = reason(s, set, e);
-    if why == 0 {
-        return Scoring::Scored(scored(s, e));
+    match reason(s, set, e) {
+        None => Ok(scored(s, e)),
+        Some(why) => Err(why),
     }
-    Scoring::Unscored(why)
 }
 
 // The cell of an event by a set of borders: one above the last where it is not scored.
+#[tactic(auto, unfolding(rules::specs::Site::cell_of))]
 pub fn cell(s: Settings, set: u64, e: Event) -> u64
     ensures { result ≡ cell_of s set e }
 {
-    if reason(s, set, e) != 0 {
-        return not_scored(set);
+    match reason(s, set, e) {
+        None => cell_at(s, set, e.extreme, e.end - e.start),
+        Some(_) => not_scored(set),
     }
-    cell_at(s, set, e.extreme, e.end - e.start)
 }

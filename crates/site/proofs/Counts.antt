@@ -1,22 +1,25 @@
 -- Counts of an offered table, any numbers: what adds up, told without a sum that wraps; and two tables added. Assumes nothing.
+use Rattle.std.specs.Prelude.{Ok, Err}
 use Prim.Native.Nat.{ℕ, zero, suc, ◌+◌, ◌-◌, ◌*◌, ◌≤◌, ◌<◌, min}
 use mathlib.Core.Path.{◌≡◌, refl, sym, ap, ◌∙◌}
 use mathlib.Core.Bool.{Bool, true, false, ◌&&◌, ◌||◌}
 use mathlib.Core.Logic.{⊎_elim}
 use mathlib.Core.List.{List, [], ◌∷◌}
 use native.Mathlib.Nat.{zero-add, mul-le-mul}
-use native.Mathlib.Numerals.{add-one}
 use native.Mathlib.Omega.{arith}
 use borrow.Author.Tests.{ltb-true, ltb-false, lt-ltb, le-ltb, eqb-true, eqb-false, eq-eqb, ne_eqb}
 use lib.Dec.{ltb, eqb}
 use lib.IntN.{ℤ}
 use lib.ListN.{length, get_or, drop, replicate, get_or-replicate, get_or-eq_default}
 use lib.Seq.{drop-cons, ext_get_or}
-use Rattle.rules.specs.Bounded.{count}
-use Rattle.rules.specs.Recorder.{settings_good, bad_setting}
+use Rattle.std.specs.List.{fold, list_all}
+use Rattle.std.proofs.Math.Bool.{and_assoc}
+use Rattle.rules.specs.Bounded.{all, count}
+use Rattle.rules.proofs.Bounded.{all_same}
+use Rattle.rules.specs.Recorder.{settings_good}
 use Rattle.rules.specs.Halves.{half_at, halves_of, full}
 use Rattle.rules.specs.Events.{three, make_up, plus}
-use Rattle.rules.specs.Borders.{known_set, borders_of}
+use Rattle.rules.specs.Borders.{Borders, known_set, borders_of, cells_in}
 use Rattle.rules.specs.Site.{cells, is_placed, sag_cell, unused_zero, total, cells_from, empty, grown, is_unsound}
 use Rattle.rules.specs.Refusals.{recording_check, sound_check, full_check, add_check, added}
 use Rattle.rules.proofs.Booleans.{cases, both, and_true, neither, not_both}
@@ -29,7 +32,6 @@ use Rattle.rules.proofs.DemandThree.{cells-length, cells_at_lem, grown-sound}
 use Rattle.rules.specs.declared.Table.{Table}
 use Rattle.rules.specs.declared.Refusal.{Refusal}
 use Rattle.rules.specs.declared.Refusal.TheVariants.{Full, Unsound}
-use Rattle.rules.specs.declared.Taken.TheVariants.{Accepted, Refused}
 use Rattle.rules.specs.declared.Site.{Site as Handed}
 use Rattle.checks.specs.Flags.{shape_check}
 use Rattle.checks.proofs.Reading.{check_parts}
@@ -43,20 +45,48 @@ none_above t a b c h =
     let x = neither (ltb t a || ltb t b) (ltb t c) h in
     let y = neither (ltb t a) (ltb t b) x.0 in (ltb-false t a y.0, ltb-false t b y.1, ltb-false t c x.1)
 
--- ---- the sum of the cells, capped
+-- ---- the sum of the cells, up to a cap
 
-pub cap_step : (sum x rest whole top : ℕ) → sum ≤ top → min (sum + (x + rest)) top ≡ min whole top → min (min (sum + min x top) top + rest) top ≡ min whole top
-cap_step sum x rest whole top l e = omega arith
+pub sum_capped : (cap : ℕ) (cs : List ℕ) (sum : ℕ) → sum ≤ cap → fold (λ sum cell. min (sum + cell) cap) sum cs ≡ min (sum + total cs) cap
+sum_capped cap [] sum l = omega arith
+sum_capped cap (x ∷ cs) sum l = omega (arith, sum_capped cap cs (min (sum + x) cap) (omega arith))
 
-pub total-drop : (cs : List ℕ) (i : ℕ) → i < length cs → total (drop i cs) ≡ get_or cs i 0 + total (drop (i + 1) cs)
-total-drop cs i l = rw (add-one, drop-cons cs i 0 l)
-
-pub capped_up : (sum u sags : ℕ) → u ≤ sags → eqb (min sum (sags + 1) + u) sags ≡ eqb (sum + u) sags
-capped_up sum u sags l =
+pub sums_up : (cap sum u sags : ℕ) → u ≤ sags → sags < cap → eqb (min sum cap) (sags - u) ≡ eqb (sum + u) sags
+sums_up cap sum u sags l m =
     ⊎_elim
-    (λ s. let e : min sum (sags + 1) ≡ sum = omega arith in rw e)
-    (λ s. ne_eqb (min sum (sags + 1) + u) sags (λ e. omega arith) ∙ sym (ne_eqb (sum + u) sags (λ e. omega arith)))
-    (lower sum (sags + 1))
+    (λ e. eq-eqb (min sum cap) (sags - u) (let s : sum + u ≡ sags = eqb-true (sum + u) sags e in omega arith) ∙ sym e)
+    (λ e. ne_eqb (min sum cap) (sags - u) (λ s. eqb-false (sum + u) sags e (omega arith)) ∙ sym e)
+    (cases (eqb (sum + u) sags))
+
+-- ---- all cells from the n-th on are 0
+
+all_first : (p : ℕ → Bool) (n : ℕ) → all p (suc n) ≡ (p 0 && all (λ i. p (suc i)) n)
+all_first p zero = elim (p 0) as (λ b. b ≡ (b && true)) [ true ↦ refl | false ↦ refl ]
+all_first p (suc n) = rw (all_first p n) (and_assoc (p 0) (all (λ i. p (suc i)) n) (p (suc n)))
+
+ltb_suc : (i n : ℕ) → ltb i n ≡ ltb (suc i) (suc n)
+ltb_suc i n =
+    ⊎_elim (λ l. lt-ltb i n l ∙ sym (lt-ltb (suc i) (suc n) (omega arith))) (λ l. le-ltb i n l ∙ sym (le-ltb (suc i) (suc n) (omega arith))) (lower i n)
+
+abbrev unused_at : ℕ → List ℕ → ℕ → Bool
+unused_at n cs i = ltb i n || eqb (get_or cs i 0) 0
+
+zero_from : (n : ℕ) (cs : List ℕ) → list_all (λ cell. eqb cell 0) (drop n cs) ≡ all (unused_at n cs) (length cs)
+zero_from zero [] = refl
+zero_from (suc n) [] = refl
+zero_from zero (x ∷ cs) =
+    let next : all (unused_at 0 cs) (length cs) ≡ all (λ i. unused_at 0 (x ∷ cs) (suc i)) (length cs) =
+    all_same (unused_at 0 cs) (λ i. unused_at 0 (x ∷ cs) (suc i)) (length cs) (λ i l. rw (le-ltb i 0 (omega arith), le-ltb (suc i) 0 (omega arith))) in
+    ap (λ b. eqb x 0 && b) (zero_from 0 cs ∙ next) ∙ sym (all_first (unused_at 0 (x ∷ cs)) (length cs))
+zero_from (suc n) (x ∷ cs) =
+    let next : all (unused_at n cs) (length cs) ≡ all (λ i. unused_at (suc n) (x ∷ cs) (suc i)) (length cs) =
+    all_same (unused_at n cs) (λ i. unused_at (suc n) (x ∷ cs) (suc i)) (length cs) (λ i l. rw (ltb_suc i n)) in
+    let first : unused_at (suc n) (x ∷ cs) 0 ≡ true = rw (lt-ltb 0 (suc n) (omega arith)) in
+    zero_from n cs ∙ next ∙ sym (all_first (unused_at (suc n) (x ∷ cs)) (length cs) ∙ rw first)
+
+-- in a table of forty cells
+pub unused_is : (b : Borders) (cs : List ℕ) → length cs ≡ 40 → list_all (λ cell. eqb cell 0) (drop (cells_in b) cs) ≡ unused_zero b cs
+unused_is b cs forty = zero_from (cells_in b) cs ∙ rw forty
 
 -- ---- cells added, from the j-th on
 
@@ -72,13 +102,8 @@ module _ (t : Table) where
   unsound_when : (Sound t → ⊥) → true ≡ is_unsound t
   unsound_when f = ⊎_elim sym (λ e. absurd (f (sound-parts t e))) (cases (is_unsound t))
 
-  pub settings-bad : (bad_setting t.settings ≡ 0 → ⊥) → true ≡ is_unsound t
-  unfolding settings_good
-  settings-bad f = unsound_when (λ s. f (eqb-true (bad_setting t.settings) 0 s.good-settings))
-
-  pub settings_fine : bad_setting t.settings ≡ 0 → settings_good t.settings ≡ true
-  unfolding settings_good
-  settings_fine e = eq-eqb (bad_setting t.settings) 0 e
+  pub settings-bad : settings_good t.settings ≡ false → true ≡ is_unsound t
+  settings-bad e = unsound_when (λ s. not_both (settings_good t.settings) s.good-settings e)
 
   abbrev pub set_test : Bool
   set_test = known_set t.set && unused_zero (borders_of t.settings t.set) t.cells
@@ -157,42 +182,42 @@ module _ (t : Table) where
 -- ---- adding
 
 module _ (t : Table) (xs : List ℤ) where
-  pub add_unsound : is_unsound t ≡ true → ◌≡◌ {A = Handed} (record { answer = Refused Unsound; table = t }) (added t xs)
+  pub add_unsound : is_unsound t ≡ true → ◌≡◌ {A = Handed} (record { answer = Err Unsound; table = t }) (added t xs)
   unfolding added add_check sound_check
   add_unsound e = rw e
 
   module _ (sound : is_unsound t ≡ false) where
-    pub add_turned : (r : Refusal) → recording_check t.settings xs ≡ Refused r → ◌≡◌ {A = Handed} (record { answer = Refused r; table = t }) (added t xs)
+    pub add_turned : (r : Refusal) → recording_check t.settings xs ≡ Err r → ◌≡◌ {A = Handed} (record { answer = Err r; table = t }) (added t xs)
     unfolding added add_check sound_check
     add_turned r e = rw (sound, e)
 
-    pub add_unshaped : (r : Refusal) → shape_check t.settings xs ≡ Refused r → ◌≡◌ {A = Handed} (record { answer = Refused r; table = t }) (added t xs)
+    pub add_unshaped : (r : Refusal) → shape_check t.settings xs ≡ Err r → ◌≡◌ {A = Handed} (record { answer = Err r; table = t }) (added t xs)
     add_unshaped r e = add_turned r (check_parts t.settings xs ∙ rw e)
 
-    module _ (ok : recording_check t.settings xs ≡ Accepted) (n : ℕ) (all : n ≡ halves_of t.settings xs) where
+    module _ (ok : recording_check t.settings xs ≡ Ok tt) (n : ℕ) (all : n ≡ halves_of t.settings xs) where
       total-high : t.total ≤ 4000000
       total-high = (sound-parts t sound).total-high
 
-      pub add-full : 4000000 - t.total < n → ◌≡◌ {A = Handed} (record { answer = Refused (Full (4000000 - t.total)); table = t }) (added t xs)
+      pub add-full : 4000000 - t.total < n → ◌≡◌ {A = Handed} (record { answer = Err (Full (4000000 - t.total)); table = t }) (added t xs)
       unfolding added add_check sound_check full_check
       add-full l = rw (sound, ok, lt-ltb 4000000 (t.total + halves_of t.settings xs) (omega (arith, all, total-high)))
 
-      pub check_taken : n ≤ 4000000 - t.total → add_check t xs ≡ Accepted
+      pub check_taken : n ≤ 4000000 - t.total → add_check t xs ≡ Ok tt
       unfolding add_check sound_check full_check
       check_taken l = rw (sound, ok, le-ltb 4000000 (t.total + halves_of t.settings xs) (omega (arith, all, total-high)))
 
-      pub add-taken : n ≤ 4000000 - t.total → ◌≡◌ {A = Handed} (record { answer = Accepted; table = grown t xs }) (added t xs)
+      pub add-taken : n ≤ 4000000 - t.total → ◌≡◌ {A = Handed} (record { answer = Ok tt; table = grown t xs }) (added t xs)
       unfolding added
       add-taken l = rw (check_taken l)
 
 -- ---- two tables added
 
 module _ (t u : Table) where
-  pub to_full : 4000000 - t.total < u.total → ◌≡◌ {A = Handed} (record { answer = Refused (Full (4000000 - t.total)); table = t }) (added_to t u)
+  pub to_full : 4000000 - t.total < u.total → ◌≡◌ {A = Handed} (record { answer = Err (Full (4000000 - t.total)); table = t }) (added_to t u)
   unfolding added_to
   to_full l = rw (lt-ltb (4000000 - t.total) u.total l)
 
-  pub to_merged : (v : Table) → u.total ≤ 4000000 - t.total → v ≡ merged t u → ◌≡◌ {A = Handed} (record { answer = Accepted; table = v }) (added_to t u)
+  pub to_merged : (v : Table) → u.total ≤ 4000000 - t.total → v ≡ merged t u → ◌≡◌ {A = Handed} (record { answer = Ok tt; table = v }) (added_to t u)
   unfolding added_to
   to_merged v l e = rw (e, le-ltb (4000000 - t.total) u.total l)
 
@@ -234,14 +259,14 @@ module _ (t : Table) (xs : List ℤ) (forty : length t.cells ≡ 40) where
   unfolding merged grown
   merged-grown = rw (cells_again gain) (simp zero-add)
 
-  sound-grown : add_check t xs ≡ Accepted → Sound (merged t u)
+  sound-grown : add_check t xs ≡ Ok tt → Sound (merged t u)
   sound-grown ok = rw merged-grown (sound-parts (grown t xs) (grown-sound t xs forty ok))
 
   u_forty : length u.cells ≡ 40
   unfolding grown
   u_forty = cells-length gain (replicate cells 0) 0
 
-  cells_low : add_check t xs ≡ Accepted → (i : ℕ) → get_or t.cells i 0 + get_or u.cells i 0 ≤ 4000000
+  cells_low : add_check t xs ≡ Ok tt → (i : ℕ) → get_or t.cells i 0 + get_or u.cells i 0 ≤ 4000000
   unfolding merged
   cells_low ok i =
       let s = sound-grown ok in
@@ -254,7 +279,7 @@ module _ (t : Table) (xs : List ℤ) (forty : length t.cells ≡ 40) where
       rw (get_or-eq_default t.cells 0 {n = i} l, get_or-eq_default u.cells 0 {n = i} (omega (arith, u_forty, forty))) (omega arith))
       (lower i (length t.cells))
 
-  pub mergeable : add_check t xs ≡ Accepted → Mergeable t u
+  pub mergeable : add_check t xs ≡ Ok tt → Mergeable t u
   unfolding merged
   mergeable ok =
       let s = sound-grown ok in
@@ -277,7 +302,7 @@ module _ (t : Table) (xs : List ℤ) (forty : length t.cells ≡ 40) where
 
   -- ---- the table of an accepted recording, added
 
-  module _ (sound : is_unsound t ≡ false) (ok : recording_check t.settings xs ≡ Accepted) where
+  module _ (sound : is_unsound t ≡ false) (ok : recording_check t.settings xs ≡ Ok tt) where
     u_total : u.total ≡ halves_of t.settings xs
     unfolding grown
     u_total = zero-add (halves_of t.settings xs)
@@ -303,15 +328,15 @@ module _ (t : Table) (xs : List ℤ) (forty : length t.cells ≡ 40) where
     unfolding tabled
     answer_is = rw is
 
-    table_is : recording_check t.settings xs ≡ Accepted → r.table ≡ u
+    table_is : recording_check t.settings xs ≡ Ok tt → r.table ≡ u
     unfolding tabled
     table_is e = rw (is, e)
 
-    pub pass_adding : r.answer ≡ Accepted → Adding t r.table
+    pub pass_adding : r.answer ≡ Ok tt → Adding t r.table
     pass_adding e = let ok = sym answer_is ∙ e in rw (table_is ok) (adding sound ok)
 
-    pub pass-added : r.answer ≡ Accepted → (v : Handed) → v ≡ added_to t r.table → v ≡ added t xs
+    pub pass-added : r.answer ≡ Ok tt → (v : Handed) → v ≡ added_to t r.table → v ≡ added t xs
     pass-added e v f = let ok = sym answer_is ∙ e in f ∙ rw (table_is ok) (added_is sound ok)
 
-    pub pass-turned : (q : Refusal) → r.answer ≡ Refused q → ◌≡◌ {A = Handed} (record { answer = Refused q; table = t }) (added t xs)
+    pub pass-turned : (q : Refusal) → r.answer ≡ Err q → ◌≡◌ {A = Handed} (record { answer = Err q; table = t }) (added t xs)
     pass-turned q e = add_turned t xs sound q (sym answer_is ∙ e)

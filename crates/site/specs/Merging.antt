@@ -1,12 +1,11 @@
 -- Two tables added, number by number.
-use Rattle.std.specs.Prelude.{ℕ, ◌+◌, ◌-◌, ◌≤◌, cond, ltb, get_or}
+use Rattle.std.specs.Prelude.{Ok, Err, ℕ, ◌+◌, ◌-◌, ◌≤◌, cond, ltb, get_or}
 use Rattle.rules.specs.Halves.{of_channel, channels}
 use Rattle.rules.specs.Events.{three}
 use Rattle.rules.specs.Site.{cells_from, most_halves}
 use Rattle.rules.specs.declared.Table.{Table}
 use Rattle.rules.specs.declared.Site.{Site as Handed}
 use Rattle.rules.specs.declared.Refusal.TheVariants.{Full}
-use Rattle.rules.specs.declared.Taken.TheVariants.{Accepted, Refused}
 
 unfoldable pub merged : Table → Table → Table
 merged t u =
@@ -48,4 +47,4 @@ pub record Adding (t u : Table) : Type 0 where
 unfoldable pub added_to : Table → Table → Handed
 added_to t u =
     let full = ltb (most_halves - t.total) u.total in
-    record { answer = cond full (Refused (Full (most_halves - t.total))) Accepted; table = cond full t (merged t u) }
+    record { answer = cond full (Err (Full (most_halves - t.total))) (Ok tt); table = cond full t (merged t u) }

@@ -1,34 +1,27 @@
 // The site table: fresh for its settings, and grown by a recording.
 #![tactic(auto)]
 
-ghost use Rattle.std.specs.Prelude.{◌≡◌, true, false, ◌&&◌, ◌||◌, ℕ, ◌+◌, ◌≤◌, min as lesser, ltb, eqb, get_or};
+ghost use Rattle.std.specs.Prelude.{◌≡◌, true, false, Ok, Err, ◌&&◌, ◌||◌, ℕ, ◌+◌, ◌≤◌, min as lesser, eqb, drop, get_or};
+ghost use Rattle.std.specs.List.{fold, list_all};
 ghost use Rattle.rules.specs.Bounded.{all};
 ghost use Rattle.rules.specs.Borders.{known_set, borders_of};
 ghost use Rattle.rules.specs.Site.{unused_zero, total, cells_from, zero_settings, is_unsound};
 ghost use Rattle.rules.specs.Refusals.{settings_check, set_check, and_then, freshened, added};
-ghost use Rattle.rules.specs.declared.Taken.TheVariants.{Accepted};
-ghost use Rattle.checks.specs.Flags.{shape_check};
+ghost use Rattle.rules.specs.declared.Site.{Site as Handed};
 ghost use Rattle.site.specs.Merging.{Mergeable, merged, Adding, added_to};
 
 use borders::{check_set, known_set, not_scored};
-use checks::{check_settings, check_shape, first_bad_setting, full_of};
-use numbers::{add_each, add_sums, adds_up, min};
-use rules::{Refusal, Settings, Site, Table, Taken};
+use checks::{check_settings, full_of, settings_good};
+use halves::Recording;
+use numbers::{add_each, add_sums, adds_up};
+use rules::{Refusal, Settings, Site, Table};
 use survey::{empty_table, table_of};
 
-// The sum of the cells, or one above `most` where it is above that.
-fn cells_sum(cells: [u64; 40], most: u64) -> u64
-    requires { most ≤ 4000000 }
-    ensures { result ≡ lesser (total cells) (most + 1) }
+// The sum of the cells, or the largest number there is.
+fn cells_sum(cells: [u64; 40]) -> u64
+    ensures { result ≡ fold (λ sum cell. lesser (sum + cell) u64.MAX) 0 cells }
 {
-    let top = most + 1;
-    let mut sum: u64 = 0;
-    let mut i: usize = 0;
-    while i < 40 {
-        sum = min(sum + min(cells[i], top), top);
-        i += 1;
-    }
-    sum
+    cells.iter().fold(0, |sum, cell| sum.saturating_add(*cell))
 }
 
 // Whether the cells and the unplaced ones make up the sags.
@@ -39,20 +32,14 @@ fn sags_add_up(cells: [u64; 40], unplaced: u64, sags: u64) -> bool
     if sags < unplaced {
         return false;
     }
-    cells_sum(cells, sags) + unplaced == sags
+    cells_sum(cells) == sags - unplaced
 }
 
 // Whether the cells from `used` on are all 0.
 fn unused_zero(cells: [u64; 40], used: u64) -> bool
-    ensures { result ≡ all (λ i. ltb i used || eqb (get_or cells i 0) 0) 40 }
+    ensures { result ≡ list_all (λ cell. eqb cell 0) (drop used cells) }
 {
-    let mut zero = true;
-    let mut i: usize = 0;
-    while i < 40 {
-        zero = zero & (((i as u64) < used) | (cells[i] == 0));
-        i += 1;
-    }
-    zero
+    cells.iter().skip(used as usize).all(|cell| *cell == 0)
 }
 
 // Whether a set of borders is known, and the cells that it does not use are 0.
@@ -70,9 +57,7 @@ fn miscounted(t: Table) -> bool
     requires { (known_set t.set && unused_zero (borders_of t.settings t.set) t.cells) ≡ true }
     ensures { result ≡ is_unsound t }
 {
-    let s = t.settings;
-    let cells = t.cells;
-    if first_bad_setting(s) != 0 {
+    if !settings_good(t.settings) {
         return true;
     }
     if 4000000 < t.total {
@@ -84,22 +69,20 @@ fn miscounted(t: Table) -> bool
     if !adds_up(t.total, t.healthy, t.disturbed, t.unknown) {
         return true;
     }
-    if !sags_add_up(cells, t.unplaced, t.sags) {
+    if !sags_add_up(t.cells, t.unplaced, t.sags) {
         return true;
     }
-    let parts = t.parts;
-    if !adds_up(t.shortfall, parts.a, parts.b, parts.c) {
+    if !adds_up(t.shortfall, t.parts.a, t.parts.b, t.parts.c) {
         return true;
     }
-    3 * full_of(s) * t.total < t.shortfall
+    3 * full_of(t.settings) * t.total < t.shortfall
 }
 
 // Refusal 9, for any numbers.
 fn is_unsound(t: Table) -> bool
     ensures { result ≡ is_unsound t }
 {
-    let cells = t.cells;
-    if !set_fits(t.set, cells) {
+    if !set_fits(t.set, t.cells) {
         return true;
     }
     miscounted(t)
@@ -120,24 +103,19 @@ fn merge(t: Table, u: Table) -> Table
     requires { Mergeable t u }
     ensures { result ≡ merged t u }
 {
-    let settings = t.settings;
-    let a = t.cells;
-    let b = u.cells;
-    let parts = add_sums(t.parts, u.parts);
     Table {
-        settings,
-        set: t.set,
         total: t.total + u.total,
         healthy: t.healthy + u.healthy,
         disturbed: t.disturbed + u.disturbed,
         unknown: t.unknown + u.unknown,
-        cells: add_cells(a, b),
+        cells: add_cells(t.cells, u.cells),
         unplaced: t.unplaced + u.unplaced,
         sags: t.sags + u.sags,
         interruptions: t.interruptions + u.interruptions,
         swells: t.swells + u.swells,
         shortfall: t.shortfall + u.shortfall,
-        parts,
+        parts: add_sums(t.parts, u.parts),
+        ..t
     }
 }
 
@@ -156,13 +134,20 @@ fn no_settings() -> Settings
 }
 
 // Refusal 1: of the seven settings, and then of the set of borders.
-fn check_making(s: Settings, set: u64) -> Taken
+fn check_making(s: Settings, set: u64) -> Result<(), Refusal>
     ensures { result ≡ and_then (settings_check s) (set_check set) }
 {
-    let checked = check_settings(s);
-    match checked {
-        Taken::Accepted => check_set(set),
-        Taken::Refused(r) => Taken::Refused(r),
+    check_settings(s)?;
+    check_set(set)
+}
+
+// A refusal, beside a table.
+fn turned_away(t: Table, refusal: Refusal) -> Site
+    ensures { ◌≡◌ {A = Handed} result (record { answer = Err refusal; table = t }) }
+{
+    Site {
+        answer: Err(refusal),
+        table: t,
     }
 }
 
@@ -170,16 +155,12 @@ fn check_making(s: Settings, set: u64) -> Taken
 pub fn fresh(s: Settings, set: u64) -> Site
     ensures { result ≡ freshened s set }
 {
-    let checked = check_making(s, set);
-    match checked {
-        Taken::Accepted => Site {
-            answer: Taken::Accepted,
+    match check_making(s, set) {
+        Ok(()) => Site {
+            answer: Ok(()),
             table: empty_table(s, set),
         },
-        Taken::Refused(r) => Site {
-            answer: Taken::Refused(r),
-            table: empty_table(no_settings(), 0),
-        },
+        Err(refusal) => turned_away(empty_table(no_settings(), 0), refusal),
     }
 }
 
@@ -190,30 +171,23 @@ fn add_table(t: Table, u: Table) -> Site
 {
     let room = 4000000 - t.total;
     if room < u.total {
-        return Site {
-            answer: Taken::Refused(Refusal::Full(room)),
-            table: t,
-        };
+        return turned_away(t, Refusal::Full(room));
     }
     Site {
-        answer: Taken::Accepted,
+        answer: Ok(()),
         table: merge(t, u),
     }
 }
 
-// Adds a recording of good length to a sound table.
-fn add_shaped(t: Table, samples: &[i32]) -> Site
-    requires { (is_unsound t ≡ false) × (shape_check t.settings samples.now ≡ Accepted) }
-    ensures { result ≡ added t samples.now }
+// Adds a recording of good length to a sound table of its settings.
+fn add_shaped(t: Table, recording: &Recording) -> Site
+    requires { (is_unsound t ≡ false) × (recording.now.settings ≡ t.settings) }
+    ensures { result ≡ added t recording.now.samples.now }
 {
-    let tabled = table_of(t.settings, t.set, samples);
-    let answer = tabled.answer;
-    match answer {
-        Taken::Accepted => add_table(t, tabled.table),
-        Taken::Refused(r) => Site {
-            answer: Taken::Refused(r),
-            table: t,
-        },
+    let tabled = table_of(recording, t.set);
+    match tabled.answer {
+        Ok(()) => add_table(t, tabled.table),
+        Err(refusal) => turned_away(t, refusal),
     }
 }
 
@@ -222,18 +196,10 @@ pub fn add(t: Table, samples: &[i32]) -> Site
     ensures { result ≡ added t samples.now }
 {
     if is_unsound(t) {
-        return Site {
-            answer: Taken::Refused(Refusal::Unsound),
-            table: t,
-        };
+        return turned_away(t, Refusal::Unsound);
     }
-    let s = t.settings;
-    let checked = check_shape(s, samples);
-    match checked {
-        Taken::Accepted => add_shaped(t, samples),
-        Taken::Refused(r) => Site {
-            answer: Taken::Refused(r),
-            table: t,
-        },
+    match Recording::with_good_settings(t.settings, samples) {
+        Ok(recording) => add_shaped(t, &recording),
+        Err(refusal) => turned_away(t, refusal),
     }
 }

@@ -1,5 +1,6 @@
 -- Half-cycles at which nothing goes on: each is healthy and changes nothing else, so a stretch of them is passed over at once. Assumes
 -- nothing.
+use Rattle.std.specs.Prelude.{is_some}
 use Prim.Native.Nat.{ℕ, zero, suc, ◌+◌, ◌-◌, ◌≤◌, ◌<◌}
 use mathlib.Core.Path.{◌≡◌, refl, sym, ap, ◌∙◌}
 use mathlib.Core.Bool.{Bool, true, false, not, ◌&&◌, ◌||◌}
@@ -9,12 +10,11 @@ use borrow.Author.Tests.{lt-ltb}
 use lib.Dec.{ltb, eqb}
 use lib.ListN.{replicate}
 use Rattle.rules.specs.Bounded.{before, bit}
-use Rattle.rules.specs.Halves.{known}
+use Rattle.rules.specs.Halves.{Half, known}
 use Rattle.rules.specs.Events.{in_event, starts}
 use Rattle.rules.specs.Borders.{Borders}
 use Rattle.rules.specs.Site.{cells, is_healthy, is_disturbed, is_unknown, sag_cell}
 use Rattle.rules.specs.declared.Settings.{Settings}
-use Rattle.rules.specs.declared.Half.{Half}
 use Rattle.rules.specs.declared.Kind.{Kind}
 use Rattle.rules.specs.declared.Kind.TheVariants.{Sag, Interruption, Swell}
 use Rattle.rules.proofs.Booleans.{neither}
@@ -50,12 +50,12 @@ module _ (s : Settings) (h : ℕ → Half) (n : ℕ) where
   -- where the track holds no event, none is going on
   pub nothing_open : (k : ℕ) → going_on (track_at s h k) ≡ false → (kind : Kind) → before (in_event s h kind) k ≡ false
   unfolding track_at
-  nothing_open k e = by (neither ((opens s h Sag k).inside || before (in_event s h Interruption) k) (before (in_event s h Swell) k) e)
+  nothing_open k e = by (neither (is_some (opens s h Sag k) || before (in_event s h Interruption) k) (before (in_event s h Swell) k) e)
     where
-      by : ((opens s h Sag k).inside || before (in_event s h Interruption) k ≡ false) × (before (in_event s h Swell) k ≡ false)
+      by : (is_some (opens s h Sag k) || before (in_event s h Interruption) k ≡ false) × (before (in_event s h Swell) k ≡ false)
           → (kind : Kind) → before (in_event s h kind) k ≡ false
-      by w Sag = sym (inside_is s h Sag k) ∙ (neither (opens s h Sag k).inside (before (in_event s h Interruption) k) w.0).0
-      by w Interruption = (neither (opens s h Sag k).inside (before (in_event s h Interruption) k) w.0).1
+      by w Sag = sym (inside_is s h Sag k) ∙ (neither (is_some (opens s h Sag k)) (before (in_event s h Interruption) k) w.0).0
+      by w Interruption = (neither (is_some (opens s h Sag k)) (before (in_event s h Interruption) k) w.0).1
       by w Swell = w.1
 
   -- ---- one half-cycle

@@ -1,90 +1,75 @@
 // The survey of a recording: one pass over its half-cycles that counts all that a site table holds.
 #![tactic(auto)]
 
-ghost use Rattle.std.specs.Prelude.{◌≡◌, true, cond, ◌<◌};
-ghost use Rattle.rules.specs.Recorder.{settings_good};
+ghost use Rattle.std.specs.Prelude.{ℕ, suc, ◌≡◌, ◌≤◌, ◌<◌, true, Ok, Err, MatchResult, replicate};
 ghost use Rattle.rules.specs.Borders.{known_set};
-ghost use Rattle.rules.specs.Site.{empty};
-ghost use Rattle.rules.specs.declared.Taken.TheVariants.{Accepted};
-ghost use Rattle.checks.specs.Flags.{shape_check};
+ghost use Rattle.rules.specs.Refusals.{recording_check};
+ghost use Rattle.rules.specs.Site.{empty, grown};
+ghost use Rattle.halves.specs.Steps.{step_at};
 ghost use Rattle.kinds.specs.Machine.{Light};
-ghost use Rattle.quiet.specs.Quiet.{quiet_till, Reading, StoppedAt};
-ghost use Rattle.ledger.specs.Entries.{going_on};
-ghost use Rattle.survey.specs.Pass.{Surveying, SurveyedTo, turned_away, taken_with, tabled};
+ghost use Rattle.survey.specs.Pass.{Clear, Reached, turned_away, table_with, tabled};
 
-use checks::count_halves;
-use halves::{bad_sample, joined, step_at, step_in_range};
-use kinds::{Thresholds, thresholds_of};
-use ledger::{Landed, Survey, Track, is_open, land, pass_over, start_survey, survey_turn};
-use quiet::{Stretch, pass_quiet};
-use rules::{Half, Refusal, Settings, Site, Sums, Table, Taken};
+use halves::{Recording, joined};
+use ledger::{Landed, Survey, is_open, land, pass_over, start_survey, survey_turn};
+use quiet::calm_from;
+use rules::{Half, Refusal, Settings, Site, Sums, Table};
 
-// How far the pass has come: the survey before half-cycle k, that one's first step, and whether that step is in range.
+// How far the pass has come: the survey before half-cycle k, and that one's first step, which is in range.
 #[derive(Clone, Copy)]
 pub struct Surveyed {
     pub survey: Survey,
     pub step: Half,
     pub k: u64,
-    pub good: bool,
 }
 
-// The first half-cycle from `from` on for the machine, and its two steps: where nothing is going on the quiet ones are passed over.
-fn calm_from(
-    s: Settings,
-    m: Thresholds,
-    halves: u64,
-    samples: &[i32],
-    t: Track,
-    first: Half,
-    from: u64,
-) -> Stretch
-    requires { Reading s samples.now m from halves first × (from < halves) }
-    ensures { StoppedAt s samples.now halves (cond (going_on t) from (quiet_till s samples.now from halves)) result }
+// The pass before half-cycle 0.
+fn survey_start(recording: &Recording) -> Result<Surveyed, Refusal>
+    ensures { MatchResult result (λ on. (set : ℕ) → Reached recording.now set on (replicate 40 0)) (λ q. recording_check recording.now.settings recording.now.samples.now ≡ Err q) }
 {
-    if is_open(t) {
-        return Stretch {
-            k: from,
-            step: first,
-            next: step_at(s, samples, from + 1),
-        };
-    }
-    pass_quiet(s, m, samples, from, halves, first)
+    let step = recording.step_at(0);
+    recording.check_step(0, step)?;
+    Ok(Surveyed {
+        survey: start_survey(),
+        step,
+        k: 0,
+    })
 }
 
-// Surveys on from half-cycle `from`: the quiet ones are passed over, and the machine takes the next.
+// Surveys on: the quiet half-cycles are passed over, and the machine takes the next.
 fn survey_next(
-    s: Settings,
+    recording: &Recording,
     set: u64,
-    m: Thresholds,
-    halves: u64,
-    samples: &[i32],
-    p: Survey,
-    first: Half,
-    from: u64,
+    on: Surveyed,
     cells: &mut [u64; 40],
-) -> Surveyed
-    requires { Surveying s set samples.now m halves p first from cells.old }
-    ensures { SurveyedTo s set samples.now from result cells.new }
+) -> Result<Surveyed, Refusal>
+    requires { (known_set set ≡ true) × (on.k < recording.now.halves) × Reached recording.now set on cells.old }
+    ensures { MatchResult result (λ then. (on.k < then.k) × Reached recording.now set then cells.new) (λ q. recording_check recording.now.settings recording.now.samples.now ≡ Err q) }
 {
-    let calm = calm_from(s, m, halves, samples, p.track, first, from);
-    let step = calm.step;
-    let next = calm.next;
+    let calm = calm_from(recording, is_open(on.survey.track), on.k, on.step);
     let k = calm.k;
-    let survey = pass_over(p, k - from);
-    if k == halves {
-        return Surveyed {
+    let survey = pass_over(on.survey, k - on.k);
+    if k == recording.halves {
+        return Ok(Surveyed {
             survey,
-            step,
+            step: calm.step,
             k,
-            good: true,
-        };
+        });
     }
-    Surveyed {
-        survey: survey_turn(s, set, m, joined(step, next), survey, k, cells),
-        step: next,
+    recording.check_step(k + 1, calm.next)?;
+    let half = joined(calm.step, calm.next);
+    Ok(Surveyed {
+        survey: survey_turn(
+            recording.settings,
+            set,
+            recording.thresholds,
+            half,
+            survey,
+            k,
+            cells,
+        ),
+        step: calm.next,
         k: k + 1,
-        good: step_in_range(s, samples, k + 1, next),
-    }
+    })
 }
 
 // A table of the settings and the set of borders with every count 0.
@@ -113,75 +98,76 @@ fn turned_away(s: Settings, set: u64, refusal: Refusal) -> Site
     ensures { result ≡ turned_away s set refusal }
 {
     Site {
-        answer: Taken::Refused(refusal),
+        answer: Err(refusal),
         table: empty_table(s, set),
     }
 }
 
-// The table of the numbers counted, beside "accepted".
-fn taken(s: Settings, set: u64, halves: u64, p: Survey, landed: Landed, cells: [u64; 40]) -> Site
+// The table of the numbers counted.
+fn table_with(
+    s: Settings,
+    set: u64,
+    halves: u64,
+    p: Survey,
+    landed: Landed,
+    cells: [u64; 40],
+) -> Table
     requires { Light landed.parts }
-    ensures { result ≡ taken_with s set halves p landed cells }
+    ensures { result ≡ table_with s set halves p landed cells }
 {
-    let classes = p.classes;
-    let starts = p.starts;
     let parts = landed.parts;
-    let shortfall = parts.a + parts.b + parts.c;
-    Site {
-        answer: Taken::Accepted,
-        table: Table {
-            settings: s,
-            set,
-            total: halves,
-            healthy: classes.healthy,
-            disturbed: classes.disturbed,
-            unknown: classes.unknown,
-            cells,
-            unplaced: landed.unplaced,
-            sags: starts.sags,
-            interruptions: starts.interruptions,
-            swells: starts.swells,
-            shortfall,
-            parts,
-        },
+    Table {
+        settings: s,
+        set,
+        total: halves,
+        healthy: p.classes.healthy,
+        disturbed: p.classes.disturbed,
+        unknown: p.classes.unknown,
+        cells,
+        unplaced: landed.unplaced,
+        sags: p.starts.sags,
+        interruptions: p.starts.interruptions,
+        swells: p.starts.swells,
+        shortfall: parts.a + parts.b + parts.c,
+        parts,
     }
 }
 
-// The table of one recording of good length by a set of borders, or refusal 6, which is told as soon as a bad sample is met.
+// The table of a recording of good length by a set of borders, or refusal 6, which is told as soon as a bad sample is met.
 // Half-cycle H, which does not exist, ends a sag that is still going on.
-pub fn table_of(s: Settings, set: u64, samples: &[i32]) -> Site
-    requires { (settings_good s ≡ true) × (known_set set ≡ true) × (shape_check s samples.now ≡ Accepted) }
-    ensures { result ≡ tabled s set samples.now }
+fn survey_all(recording: &Recording, set: u64) -> Result<Table, Refusal>
+    requires { known_set set ≡ true }
+    ensures { MatchResult result (λ t. (recording_check recording.now.settings recording.now.samples.now ≡ Ok tt) × (t ≡ grown (empty recording.now.settings set) recording.now.samples.now)) (λ q. recording_check recording.now.settings recording.now.samples.now ≡ Err q) }
 {
-    let halves = count_halves(s, samples);
-    let m = thresholds_of(s);
+    let halves = recording.halves;
     let mut cells: [u64; 40] = [0; 40];
-    let mut p = start_survey();
-    let mut step = step_at(s, samples, 0);
-    if !step_in_range(s, samples, 0, step) {
-        return turned_away(s, set, bad_sample(s, samples, 0));
+    let mut on = survey_start(recording)?;
+    while on.k < halves {
+        on = survey_next(recording, set, on, &mut cells)?;
     }
-    let mut k: u64 = 0;
-    while k < halves {
-        let on = survey_next(s, set, m, halves, samples, p, step, k, &mut cells);
-        if !on.good {
-            return turned_away(s, set, bad_sample(s, samples, on.k));
-        }
-        p = on.survey;
-        step = on.step;
-        k = on.k;
-    }
-    let track = p.track;
-    let open = track.sag;
+    let p = on.survey;
     let landed = land(
-        s,
+        recording.settings,
         set,
         p.landed,
-        open.inside,
-        open,
+        p.track.sag,
         halves,
         false,
         &mut cells,
     );
-    taken(s, set, halves, p, landed, cells)
+    Ok(table_with(recording.settings, set, halves, p, landed, cells))
+}
+
+// The table of one recording of good length by a set of borders, or refusal 6 beside an empty table.
+pub fn table_of(recording: &Recording, set: u64) -> Site
+    requires { known_set set ≡ true }
+    ensures { result ≡ tabled recording.now.settings set recording.now.samples.now }
+{
+    match survey_all(recording, set) {
+        Ok(table) => Site {
+            answer: Ok(()),
+            table,
+        },
+        Err(refusal) => turned_away(recording.settings, set, refusal),
+    }
 }

@@ -3,69 +3,48 @@
 
 ghost use Rattle.std.specs.Prelude.{◌≡◌, ◌+◌, ◌*◌, ◌≤◌, length};
 ghost use Rattle.std.proofs.lemmas.List.Edits.{sets};
-ghost use Rattle.rules.specs.Bounded.{bit};
 ghost use Rattle.rules.specs.Trace.{sums_told};
-ghost use Rattle.kinds.specs.Machine.{level_from};
-ghost use Rattle.tell.specs.Telling.{followed_by, class_by, kinds_by, five_of, told_by, outside, Tellable};
+ghost use Rattle.kinds.specs.Machine.{level_from, followed_by};
+ghost use Rattle.tell.specs.Telling.{class_by, kinds_by, five_of, told_by, Tellable};
 
-use kinds::{Level, Thresholds, goes_on, level_at};
+use kinds::{Inside, Thresholds, level_at};
 use numbers::copy;
-use rules::{Half, Kind, Sums};
+use rules::{Half, Sums};
 
-// The kinds that a half-cycle is in an event of.
+// The classes of half-cycles, by their numbers.
 #[derive(Clone, Copy)]
-pub struct Inside {
-    pub sag: bool,
-    pub interruption: bool,
-    pub swell: bool,
+enum Class {
+    Healthy = 1,
+    Disturbed = 2,
+    Unknown = 3,
 }
 
-// What a half-cycle makes of them.
-fn follow(m: Thresholds, was: Inside, l: Level) -> Inside
-    ensures { result ≡ followed_by m was l }
-{
-    Inside {
-        sag: goes_on(Kind::Sag, m.sag, was.sag, l),
-        interruption: goes_on(Kind::Interruption, m.interruption, was.interruption, l),
-        swell: goes_on(Kind::Swell, m.swell, was.swell, l),
-    }
-}
-
-// 1 healthy, 2 disturbed, 3 unknown; `any` says whether it is in an event.
+// The number of a half-cycle's class; `any` says whether it is in an event.
 fn class_number(known: bool, any: bool) -> u64
     ensures { result ≡ class_by known any }
 {
-    if !known {
-        return 3;
-    }
-    if any {
-        return 2;
-    }
-    1
-}
-
-// So much where it holds, else 0.
-fn weigh(holds: bool, weight: u64) -> u64
-    ensures { result ≡ weight * bit holds }
-{
-    if holds { weight } else { 0 }
+    let class = if !known {
+        Class::Unknown
+    } else if any {
+        Class::Disturbed
+    } else {
+        Class::Healthy
+    };
+    class as u64
 }
 
 // 1 for a sag plus 2 for an interruption plus 4 for a swell.
 fn kinds_number(i: Inside) -> u64
     ensures { result ≡ kinds_by i }
 {
-    weigh(i.sag, 1) + weigh(i.interruption, 2) + weigh(i.swell, 4)
+    u64::from(i.sag) + 2 * u64::from(i.interruption) + 4 * u64::from(i.swell)
 }
 
 // S of each channel, 0 where unknown.
 fn sums_of(half: Half) -> Sums
     ensures { result ≡ sums_told half }
 {
-    match half {
-        Half::Known(v) => v,
-        Half::Unknown => Sums { a: 0, b: 0, c: 0 },
-    }
+    half.unwrap_or(Sums { a: 0, b: 0, c: 0 })
 }
 
 // The five numbers of a half-cycle, from `at` on.
@@ -83,27 +62,14 @@ pub fn tell(m: Thresholds, half: Half, was: Inside, k: u64, out: &mut [u64]) -> 
     ensures value { result ≡ followed_by m was (level_from m.full m.sag.from half) }
     ensures out_after { out.new ≡ sets out.old (5 * k) (told_by m was half) }
 {
-    let marks = m.sag;
-    let l = level_at(m.full, marks.from, half);
-    let is = follow(m, was, l);
-    let any = is.sag | is.interruption | is.swell;
+    let l = level_at(m.full, m.sag.from, half);
+    let is = was.next(m, l);
     put(
         out,
         (5 * k) as usize,
-        class_number(l.known, any),
+        class_number(l.is_some(), is.any()),
         kinds_number(is),
         sums_of(half),
     );
     is
-}
-
-// Before half-cycle 0 there is no event.
-pub fn none() -> Inside
-    ensures { result ≡ outside }
-{
-    Inside {
-        sag: false,
-        interruption: false,
-        swell: false,
-    }
 }

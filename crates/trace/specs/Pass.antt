@@ -1,22 +1,15 @@
 -- The pass that tells each half-cycle, as the code runs it.
-use Rattle.std.specs.Prelude.{ℕ, ◌*◌, ◌≤◌, ◌≡◌, true, List, ℤ}
+use Rattle.std.specs.Prelude.{ℕ, ◌*◌, ◌≤◌, ◌≡◌, List, ℤ, Ok}
 use Rattle.rules.specs.Bounded.{join}
-use Rattle.rules.specs.Recorder.{settings_good}
-use Rattle.rules.specs.Halves.{halves_of}
 use Rattle.rules.specs.Trace.{half_words}
 use Rattle.rules.specs.Refusals.{recording_check}
 use Rattle.rules.specs.declared.Settings.{Settings}
-use Rattle.rules.specs.declared.Taken.TheVariants.{Accepted}
-use Rattle.kinds.specs.Machine.{thresholds_of}
-use Rattle.kinds.specs.declared.Thresholds.{Thresholds}
+use Rattle.halves.specs.declared.Recording.{Recording}
 
--- what the writing pass asks
-pub record Writable (s : Settings) (xs : List ℤ) (m : Thresholds) (halves room : ℕ) : Type 0 where
-  pub good-settings : settings_good s ≡ true
-  pub accepted : recording_check s xs ≡ Accepted
-  pub thresholds : m ≡ thresholds_of s
-  pub halves_are : halves ≡ halves_of s xs
-  pub enough : 5 * halves ≤ room
+-- what the writing pass asks of a recording of good length
+pub record Writable (r : Recording) (room : ℕ) : Type 0 where
+  pub accepted : recording_check r.settings r.samples.now ≡ Ok tt
+  pub enough : 5 * r.halves ≤ room
 
 -- the numbers of the half-cycles before k
 abbrev pub told_below : Settings → List ℤ → ℕ → List ℕ

@@ -1,5 +1,5 @@
 -- Stepping a view from the start gives exactly its channel's samples, in order, and then none for ever. Assumes nothing.
-use Prim.Native.Nat.{ℕ, zero, suc, ◌+◌, ◌*◌, ◌/◌, ◌%◌, ◌<◌, ◌≤◌}
+use Prim.Native.Nat.{ℕ, zero, suc, ◌+◌, ◌-◌, ◌*◌, ◌/◌, ◌%◌, ◌<◌, ◌≤◌}
 use mathlib.Core.Path.{◌≡◌, refl, sym, ap, ◌∙◌}
 use mathlib.Core.Bool.{Bool, true, false, ◌&&◌, cond}
 use mathlib.Core.List.{List, [], ◌∷◌, ◌++◌, map}
@@ -11,9 +11,10 @@ use lib.Dec.{leb, ltb}
 use lib.IntN.{ℤ, pos}
 use lib.ListN.{length, get_or, drop, replicate, length-append, length-drop, drop_of_length-le}
 use lib.Seq.{get_or_at, get_or-drop}
+use Rattle.std.specs.Prelude.{Some, None, ⊤}
+use Rattle.std.specs.Iterator.{MakesProgress, at_most}
 use Rattle.rules.specs.Bounded.{bit}
 use Rattle.rules.specs.Recorder.{sample_at}
-use Rattle.view.specs.declared.Reading.TheVariants.{Sample, Nothing}
 use Rattle.view.specs.declared.View.{View}
 use Rattle.view.specs.Channel.{holds, reading_of, next_of, step_of, count_of, view_of, moved_on, thirds, channel_of, readings, viewed}
 
@@ -36,20 +37,20 @@ module _ (xs : List ℤ) (c at : ℕ) where
   unfolding holds
   no_channel h = rw (lt-leb c 2 h)
 
-  pub step_held : holds xs c at ≡ true → step_of xs c at ≡ record { reading = Sample (sample_at xs c at); at = at + 1 }
+  pub step_held : holds xs c at ≡ true → step_of xs c at ≡ record { reading = Some (sample_at xs c at); at = at + 1 }
   unfolding reading_of next_of
   step_held h = rw h
 
-  pub step_not : holds xs c at ≡ false → step_of xs c at ≡ record { reading = Nothing; at = at }
+  pub step_not : holds xs c at ≡ false → step_of xs c at ≡ record { reading = None; at = at }
   unfolding reading_of next_of
   step_not h = rw h
 
   -- a view that gave a sample was within the run, and has moved on by one
-  pub sample_moves : (x : ℤ) → reading_of xs c at ≡ Sample x → (at < length xs) × (next_of xs c at ≡ at + 1)
+  pub sample_moves : (x : ℤ) → reading_of xs c at ≡ Some x → (at < length xs) × (next_of xs c at ≡ at + 1)
   unfolding reading_of next_of holds
   sample_moves x = go (leb c 2) (ltb (3 * at + c) (length xs)) refl
     where
-      go : (b h : Bool) → ltb (3 * at + c) (length xs) ≡ h → cond (b && h) (Sample (sample_at xs c at)) Nothing ≡ Sample x
+      go : (b h : Bool) → ltb (3 * at + c) (length xs) ≡ h → cond (b && h) (Some (sample_at xs c at)) None ≡ Some x
           → (at < length xs) × (cond (b && h) (at + 1) at ≡ at + 1)
       go true true p e = (omega (arith, ltb-true (3 * at + c) (length xs) p), refl)
       go true false p e = let z : ◌≡◌ {A = ℕ} 0 1 = cc in absurd (omega arith)
@@ -85,6 +86,21 @@ channel_by_its_count xs c at = go (ltb at (count_of (length xs) c)) refl
     go true p = let h = below-count (length xs) c at (ltb-true at (count_of (length xs) c) p) in held xs c at h.0 h.1
     go false p = past_count xs c at (ltb-false at (count_of (length xs) c) p)
 
+-- a view that gave a sample is nearer the end of its channel
+pub nearer_end : (v : View)
+    → MakesProgress {S = View} {A = ℤ} (λ _. ⊤) (λ w. at_most (count_of (length w.samples.now) w.channel - w.at)) v
+    (reading_of v.samples.now v.channel v.at) (moved_on v)
+unfolding reading_of next_of
+nearer_end v = go (holds v.samples.now v.channel v.at) _ refl
+  where
+    go : (b : Bool) (x : ℤ) → holds v.samples.now v.channel v.at ≡ b
+        → MakesProgress {S = View} {A = ℤ} (λ _. ⊤) (λ w. at_most (count_of (length w.samples.now) w.channel - w.at)) v
+        (cond b (Some x) None) (view_of v.samples v.channel (cond b (v.at + 1) v.at))
+    go true x p =
+        let below = ltb-true v.at (count_of (length v.samples.now) v.channel) (sym (channel_by_its_count v.samples.now v.channel v.at) ∙ p) in
+        record { on = λ _. (tt, tt, omega (arith, below)); keeps = tt; rests = λ _. tt }
+    go false x p = record { on = λ _. tt; keeps = tt; rests = λ _. tt }
+
 -- ---- a channel as a list
 
 -- from k on: its sample and what is three further, or nothing
@@ -99,7 +115,7 @@ thirds_end : (xs : List ℤ) (k : ℕ) → length xs ≤ k → thirds (drop k xs
 thirds_end xs k h = rw (drop_of_length-le xs h)
 
 -- once there is none, there is none for ever
-pub none_ever : (xs : List ℤ) (c at : ℕ) → holds xs c at ≡ false → (n : ℕ) → readings xs c at n ≡ replicate n Nothing
+pub none_ever : (xs : List ℤ) (c at : ℕ) → holds xs c at ≡ false → (n : ℕ) → readings xs c at n ≡ replicate n None
 unfolding reading_of next_of
 none_ever xs c at h zero = refl
 none_ever xs c at h (suc n) = rw (h, none_ever xs c at h n)
@@ -125,7 +141,7 @@ module _ (xs : List ℤ) (k : ℕ) where
 
 -- from a position on, where ys is what is left of the channel
 walks_from : (xs : List ℤ) (c : ℕ) → c ≤ 2 → (ys : List ℤ) (at m : ℕ) → thirds (drop (3 * at + c) xs) ≡ ys
-    → readings xs c at (length ys + m) ≡ map Sample ys ++ replicate m Nothing
+    → readings xs c at (length ys + m) ≡ map Some ys ++ replicate m None
 unfolding reading_of next_of Left
 walks_from xs c l [] at m e =
     let n : 0 + m ≡ m = omega arith in
@@ -134,15 +150,15 @@ walks_from xs c l (y ∷ ys) at m e =
     let n : suc (length ys) + m ≡ suc (length ys + m) = omega arith in
     let k : suc (suc (suc (3 * at + c))) ≡ 3 * (at + 1) + c = omega arith in
     let t = left_by xs (3 * at + c) (y ∷ ys) e _ refl in
-    rw (n, held xs c at l t.0, t.1) (ap (λ r. Sample y ∷ r) (walks_from xs c l ys (at + 1) m (rw k at t.2)))
+    rw (n, held xs c at l t.0, t.1) (ap (λ r. Some y ∷ r) (walks_from xs c l ys (at + 1) m (rw k at t.2)))
 
 -- THE LAW: exactly the channel's samples, in order, and then none for ever
-pub walks : (xs : List ℤ) (c m : ℕ) → readings xs c 0 (length (channel_of xs c) + m) ≡ map Sample (channel_of xs c) ++ replicate m Nothing
+pub walks : (xs : List ℤ) (c m : ℕ) → readings xs c 0 (length (channel_of xs c) + m) ≡ map Some (channel_of xs c) ++ replicate m None
 unfolding channel_of
 walks xs c m = go (leb c 2) refl
   where
     go : (b : Bool) → leb c 2 ≡ b
-        → readings xs c 0 (length (cond b (thirds (drop c xs)) []) + m) ≡ map Sample (cond b (thirds (drop c xs)) []) ++ replicate m Nothing
+        → readings xs c 0 (length (cond b (thirds (drop c xs)) []) + m) ≡ map Some (cond b (thirds (drop c xs)) []) ++ replicate m None
     go true p = walks_from xs c (leb-true c 2 p) (thirds (drop c xs)) 0 m (let k : 3 * 0 + c ≡ c = omega arith in rw k)
     go false p = let n : 0 + m ≡ m = omega arith in rw n (none_ever xs c 0 (no_channel xs c 0 (leb-false c 2 p)) m)
 
@@ -153,7 +169,7 @@ viewed_is v (suc n) = ap (λ r. reading_of v.samples.now v.channel v.at ∷ r) (
 
 pub view_walks : (samples : Bor (List ℤ)) (c m : ℕ)
     → viewed (view_of samples c 0) (length (channel_of samples.now c) + m)
-    ≡ map Sample (channel_of samples.now c) ++ replicate m Nothing
+    ≡ map Some (channel_of samples.now c) ++ replicate m None
 view_walks samples c m =
     viewed_is (view_of samples c 0) (length (channel_of samples.now c) + m) ∙ walks samples.now c m
 
@@ -193,7 +209,7 @@ channel_length xs c = go (leb c 2) (ltb c (length xs % 3)) refl refl
     go false r p q = refl
 
 -- a sample comes through as it is, missing or out of range as it may be
-pub as_it_is : (xs ys : List ℤ) (x : ℤ) (c at : ℕ) → c ≤ 2 → length xs ≡ 3 * at + c → reading_of (xs ++ x ∷ ys) c at ≡ Sample x
+pub as_it_is : (xs ys : List ℤ) (x : ℤ) (c at : ℕ) → c ≤ 2 → length xs ≡ 3 * at + c → reading_of (xs ++ x ∷ ys) c at ≡ Some x
 unfolding reading_of
 as_it_is xs ys x c at l e =
     rw (held (xs ++ x ∷ ys) c at l (omega (arith, length-append xs (x ∷ ys))), get_or_at xs x ys (pos 0) (3 * at + c) e)

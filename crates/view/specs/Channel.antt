@@ -1,10 +1,8 @@
 -- One channel inside the interleaved run, read through a view: what it gives, and where it stands afterwards.
-use Rattle.std.specs.Prelude.{ℕ, zero, suc, ◌+◌, ◌*◌, ◌/◌, ◌%◌, Bool, ◌&&◌, cond, List, [], ◌∷◌, length, drop, ℤ, leb, ltb}
+use Rattle.std.specs.Prelude.{ℕ, zero, suc, ◌+◌, ◌*◌, ◌/◌, ◌%◌, Bool, ◌&&◌, cond, List, [], ◌∷◌, length, drop, ℤ, leb, ltb, Option, Some, None}
 use Rattle.std.specs.Borrow.{Bor}
 use Rattle.rules.specs.Recorder.{sample_at}
 use Rattle.rules.specs.Bounded.{bit}
-use Rattle.view.specs.declared.Reading.{Reading}
-use Rattle.view.specs.declared.Reading.TheVariants.{Sample, Nothing}
 use Rattle.view.specs.declared.Step.{Step}
 use Rattle.view.specs.declared.View.{View}
 
@@ -13,8 +11,8 @@ unfoldable pub holds : List ℤ → ℕ → ℕ → Bool
 holds xs channel at = leb channel 2 && ltb (3 * at + channel) (length xs)
 
 -- the sample at the position in the channel, as it is, or none
-unfoldable pub reading_of : List ℤ → ℕ → ℕ → Reading
-reading_of xs channel at = cond (holds xs channel at) (Sample (sample_at xs channel at)) Nothing
+unfoldable pub reading_of : List ℤ → ℕ → ℕ → Option ℤ
+reading_of xs channel at = cond (holds xs channel at) (Some (sample_at xs channel at)) None
 
 -- on by one after a sample; with none, the view stays
 unfoldable pub next_of : List ℤ → ℕ → ℕ → ℕ
@@ -52,10 +50,10 @@ unfoldable pub channel_of : List ℤ → ℕ → List ℤ
 channel_of xs channel = cond (leb channel 2) (thirds (drop channel xs)) []
 
 -- what a view gives in n readings, one after the other: by its samples, channel and position, and by the view itself
-abbrev pub readings : List ℤ → ℕ → ℕ → ℕ → List Reading
+abbrev pub readings : List ℤ → ℕ → ℕ → ℕ → List (Option ℤ)
 readings xs channel at zero = []
 readings xs channel at (suc n) = reading_of xs channel at ∷ readings xs channel (next_of xs channel at) n
 
-abbrev pub viewed : View → ℕ → List Reading
+abbrev pub viewed : View → ℕ → List (Option ℤ)
 viewed v zero = []
 viewed v (suc n) = reading_of v.samples.now v.channel v.at ∷ viewed (moved_on v) n

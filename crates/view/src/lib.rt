@@ -1,26 +1,20 @@
 // One channel of a run of interleaved samples, read in order through a view that holds the caller's samples and copies
-// nothing. The functions over the view are thin, and `step_at` does their work on a plain slice.
+// nothing. The view is an iterator, and `read` does its work on a plain slice.
 #![tactic(auto)]
 
-ghost use Rattle.std.specs.Prelude.{◌≡◌};
+ghost use Rattle.std.specs.Prelude.{◌≡◌, ◌-◌, length};
+ghost use Rattle.std.specs.Iterator.{at_most};
 ghost use Rattle.view.specs.Channel.{count_of, reading_of, step_of, view_of, moved_on};
 
-// What a view gives: a sample as it is in the run, or none.
-#[derive(Clone, Copy)]
-pub enum Reading {
-    Sample(i32),
-    Nothing,
-}
-
-// A reading, and the position after it.
-#[derive(Clone, Copy)]
+// A sample as it is in the run, or none, and the position after it.
+#[derive(Clone, Copy, Debug, PartialEq, Eq, Hash)]
 pub struct Step {
-    pub reading: Reading,
+    pub reading: Option<i32>,
     pub at: usize,
 }
 
 // The caller's samples, a channel (a is 0) and the position of the next reading.
-#[derive(Clone, Copy)]
+#[derive(Clone, Copy, Debug)]
 pub struct View<'a> {
     pub samples: &'a [i32],
     pub channel: usize,
@@ -32,71 +26,60 @@ pub struct View<'a> {
 fn count(len: usize, channel: usize) -> usize
     ensures { result ≡ count_of len channel }
 {
-    if 2 < channel {
-        return 0;
-    }
-    if channel < len % 3 {
-        len / 3 + 1
+    if channel > 2 {
+        0
     } else {
-        len / 3
+        len / 3 + usize::from(channel < len % 3)
     }
 }
 
-// The work: what stands at a position of a channel, and the position after it. Below the count no product wraps.
-fn step_at(samples: &[i32], channel: usize, at: usize) -> Step
+// What stands at a position of a channel, and the position after it: a caller has a slice and two numbers, and no view. Below
+// the count no product wraps.
+pub fn read(samples: &[i32], channel: usize, at: usize) -> Step
     ensures { result ≡ step_of samples.now channel at }
 {
     if at < count(samples.len(), channel) {
         let sample = samples[3 * at + channel];
-        let next = at + 1;
         Step {
-            reading: Reading::Sample(sample),
-            at: next,
+            reading: Some(sample),
+            at: at + 1,
         }
     } else {
-        Step {
-            reading: Reading::Nothing,
-            at: at,
+        Step { reading: None, at }
+    }
+}
+
+impl<'a> View<'a> {
+    // A view of one channel at a position.
+    pub fn new(samples: &'a [i32], channel: usize, at: usize) -> Self
+        ensures { result ≡ view_of samples.entry channel at }
+    {
+        View {
+            samples,
+            channel,
+            at,
         }
     }
-}
 
-// A view of one channel at a position.
-pub fn new<'a>(samples: &'a [i32], channel: usize, at: usize) -> View<'a>
-    ensures { result ≡ view_of samples.entry channel at }
-{
-    View {
-        samples,
-        channel,
-        at,
+    // The position of the next reading.
+    pub fn position(&self) -> usize
+        ensures { result ≡ self.now.at }
+    {
+        self.at
     }
 }
 
-// Gives the sample at the view's position and moves on by one; where there is none, gives none and stays.
-pub fn next<'s, 'a>(v: &'s mut View<'a>) -> Reading
-    ensures { (result ≡ reading_of v.old.samples.now v.old.channel v.old.at)
-        × (v.new ≡ moved_on v.old) }
-{
-    let step = step_at(v.samples, v.channel, v.at);
-    v.at = step.at;
-    step.reading
-}
+// The samples of the channel from the view's position on. With none left the view stays where it is.
+impl Iterator for View<'_> {
+    type Item = i32;
 
-// The position of the next reading.
-pub fn position<'a>(v: View<'a>) -> usize
-    ensures { result ≡ v.entry.at }
-{
-    v.at
-}
+    ghost next_gives = { λ v r w. (r ≡ reading_of v.samples.now v.channel v.at) × (w ≡ moved_on v) };
 
-// What a view made at a position gives, and its position afterwards: a caller has a slice and two numbers, and no view.
-pub fn read(samples: &[i32], channel: usize, at: usize) -> Step
-    ensures { result ≡ step_of samples.now channel at }
-{
-    let mut v = new(samples, channel, at);
-    let reading = next(&mut v);
-    Step {
-        reading: reading,
-        at: v.at,
+    ghost remaining = { λ v. at_most (count_of (length v.samples.now) v.channel - v.at) };
+
+    fn next(&mut self) -> Option<i32> {
+        let step = read(self.samples, self.channel, self.at);
+        self.at = step.at;
+        step.reading
     }
 }

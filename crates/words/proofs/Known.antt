@@ -6,7 +6,7 @@ use Rattle.rules.specs.Halves.{halves_of, any_missing, squares, sums_at, half_at
 use Rattle.rules.specs.Events.{carries, in_run, in_event, starts, end_of, seen_of, extreme_of, earliest, climb, retained_of, shorts_of, six_sums, type_of}
 use Rattle.rules.specs.EventList.{event_from, event_at, events_of}
 use Rattle.rules.specs.Trace.{class_at, kinds_at, half_words, trace_of}
-use Rattle.rules.specs.Scores.{in_bounds, sag_good, is_event, reason_of, reason_by, scoring, scoring_by}
+use Rattle.rules.specs.Scores.{in_bounds, sag_good, is_event, why_of, why_by, reason_of, reason_by, scoring, scoring_by}
 use Rattle.rules.specs.Borders.{known_set, borders_of, row_of, column_of}
 use Rattle.rules.specs.Site.{cell_of, is_healthy, is_disturbed, is_unknown, is_placed, is_unplaced, sag_cell, sag_sum, grown, empty, zero_settings, is_unsound}
 use Rattle.rules.specs.Refusals.{recording_check, settings_check, set_check, room_check, list_check, listed, written, trace_room_check, trace_check, traced, trace_written, freshened, sound_check, full_check, add_check, added}
@@ -15,7 +15,7 @@ use Rattle.words.specs.Known.{scores_of, lists_of, traces_of, fresh_of, adds_to,
 
 -- computed of the three tables as the rules make them, then said of their numbers
 computed : asked_of (empty good 0) (empty good 1) (empty zero_settings 0) ≡ answers
-unfolding asked_of answers scores_of lists_of traces_of fresh_of adds_to table_words table_from first_bad bad_setting settings_good halves_of any_missing squares sums_at half_at full carries in_run in_event starts end_of seen_of extreme_of earliest climb retained_of shorts_of six_sums type_of event_from event_at events_of in_bounds sag_good is_event reason_of reason_by scoring scoring_by known_set borders_of row_of column_of cell_of is_healthy is_disturbed is_unknown is_placed is_unplaced sag_cell sag_sum grown is_unsound recording_check settings_check set_check room_check list_check listed written class_at kinds_at half_words trace_of trace_room_check trace_check traced trace_written freshened sound_check full_check add_check added div of_int of_bits
+unfolding asked_of answers scores_of lists_of traces_of fresh_of adds_to table_words table_from first_bad bad_setting settings_good halves_of any_missing squares sums_at half_at full carries in_run in_event starts end_of seen_of extreme_of earliest climb retained_of shorts_of six_sums type_of event_from event_at events_of in_bounds sag_good is_event why_of why_by reason_of reason_by scoring scoring_by known_set borders_of row_of column_of cell_of is_healthy is_disturbed is_unknown is_placed is_unplaced sag_cell sag_sum grown is_unsound recording_check settings_check set_check room_check list_check listed written class_at kinds_at half_words trace_of trace_room_check trace_check traced trace_written freshened sound_check full_check add_check added div of_int of_bits
 computed = refl
 
 fresh_is : (borders : ℕ) → table_from (fresh borders) ≡ empty good borders

@@ -1,5 +1,6 @@
 -- A table and its 60 numbers are the same thing: each way back gives what was there. So a refused adding leaves the lent numbers
 -- as they were, and a host that keeps a table's numbers keeps the table.
+use Rattle.std.specs.Prelude.{Err}
 use Prim.Native.Nat.{ℕ, zero, suc, ◌+◌, ◌≤◌}
 use mathlib.Core.Path.{◌≡◌, refl, sym, ap, ap₂, ◌∙◌}
 use mathlib.Core.List.{List, [], ◌∷◌, ◌++◌}
@@ -11,7 +12,6 @@ use Rattle.rules.specs.Refusals.{freshened, added}
 use Rattle.rules.specs.declared.Settings.{Settings}
 use Rattle.rules.specs.declared.Table.{Table}
 use Rattle.rules.specs.declared.Refusal.{Refusal}
-use Rattle.rules.specs.declared.Taken.TheVariants.{Refused}
 use Rattle.words.specs.Numbers.{settings_from}
 use Rattle.words.specs.Words.{tail_of, table_words, table_from}
 
@@ -52,11 +52,11 @@ unfolding table_words
 set_eighth t = refl
 
 -- a refused adding leaves all 60 numbers
-pub refused_leaves : (w : List ℕ) (xs : List ℤ) (r : Refusal) → length w ≡ 60 → (added (table_from w) xs).answer ≡ Refused r → table_words (added (table_from w) xs).table ≡ w
+pub refused_leaves : (w : List ℕ) (xs : List ℤ) (r : Refusal) → length w ≡ 60 → (added (table_from w) xs).answer ≡ Err r → table_words (added (table_from w) xs).table ≡ w
 unfolding added
 refused_leaves w xs r h e = rw e (words_back w h)
 
 -- a refused making gives 60 zeros
-pub refused_zeros : (s : Settings) (set : ℕ) (r : Refusal) → (freshened s set).answer ≡ Refused r → table_words (freshened s set).table ≡ replicate 60 0
+pub refused_zeros : (s : Settings) (set : ℕ) (r : Refusal) → (freshened s set).answer ≡ Err r → table_words (freshened s set).table ≡ replicate 60 0
 unfolding freshened table_words
 refused_zeros s set r e = rw e

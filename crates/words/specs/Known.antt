@@ -3,14 +3,14 @@
 use Rattle.std.specs.Prelude.{ℕ, zero, suc, List, [], ◌∷◌, ◌++◌, replicate, set, length, ℤ, pos, Float}
 use Rattle.std.specs.Float.{binary64}
 use Rattle.std.specs.Float.Ieee.{of_int, of_bits}
-use Rattle.rules.specs.Scores.{reason_by, scoring_by, reason_number}
+use Rattle.rules.specs.Scores.{reason_by, scoring_by}
 use Rattle.rules.specs.Site.{cell_of}
 use Rattle.rules.specs.Refusals.{listed, written, traced, trace_written, freshened, added}
 use Rattle.rules.specs.Known.{dip}
 use Rattle.rules.specs.declared.Settings.{Settings}
 use Rattle.rules.specs.declared.Event.{Event}
 use Rattle.rules.specs.declared.Table.{Table}
-use Rattle.words.specs.Numbers.{settings_from, event_with, severity_after, energy_after, number_of_listed, answer_of_listed, number_of_traced, answer_of_traced, number_of_taken, place_of_taken}
+use Rattle.words.specs.Numbers.{settings_from, event_with, severity_after, energy_after, number_of_score, number_of_answer, count_or_place, place_of_answer}
 use Rattle.words.specs.Words.{table_words, table_from}
 
 -- ---- what the seven calls hand back
@@ -28,7 +28,7 @@ scores_of s set e =
     record {
       reason = reason_by s set e;
       cell = cell_of s set e;
-      number = reason_number (scoring_by s set e);
+      number = number_of_score (scoring_by s set e);
       severity = severity_after (scoring_by s set e) nine;
       energy = energy_after (scoring_by s set e) nine;
     }
@@ -45,8 +45,8 @@ pub record Lists : Type 0 where
 unfoldable pub lists_of : Settings → List ℤ → List ℕ → Lists
 lists_of s xs out =
     record {
-      number = number_of_listed (listed s xs (length out));
-      answer = answer_of_listed (listed s xs (length out));
+      number = number_of_answer (listed s xs (length out));
+      answer = count_or_place (listed s xs (length out));
       events = written s xs out;
     }
 
@@ -59,8 +59,8 @@ pub record Traces : Type 0 where
 unfoldable pub traces_of : Settings → List ℤ → List ℕ → Traces
 traces_of s xs out =
     record {
-      number = number_of_traced (traced s xs (length out));
-      answer = answer_of_traced (traced s xs (length out));
+      number = number_of_answer (traced s xs (length out));
+      answer = count_or_place (traced s xs (length out));
       halves = trace_written s xs out;
     }
 
@@ -73,16 +73,16 @@ pub record Tables : Type 0 where
 unfoldable pub fresh_of : Settings → ℕ → Tables
 fresh_of s set =
     record {
-      number = number_of_taken (freshened s set).answer;
-      place = place_of_taken (freshened s set).answer;
+      number = number_of_answer (freshened s set).answer;
+      place = place_of_answer (freshened s set).answer;
       table = table_words (freshened s set).table;
     }
 
 unfoldable pub adds_to : Table → List ℤ → Tables
 adds_to t xs =
     record {
-      number = number_of_taken (added t xs).answer;
-      place = place_of_taken (added t xs).answer;
+      number = number_of_answer (added t xs).answer;
+      place = place_of_answer (added t xs).answer;
       table = table_words (added t xs).table;
     }
 

@@ -1,16 +1,12 @@
 -- The numbers of the boundary: the settings and the event that they make, and the numbers that an answer makes.
-use Rattle.std.specs.Prelude.{ℕ, Float}
+use Rattle.std.specs.Prelude.{ℕ, Float, Result, Ok, Err, ⊤}
+use Rattle.rules.specs.Scores.{number_of_reason}
 use Rattle.rules.specs.Refusals.{number_of, place_in}
 use Rattle.rules.specs.declared.Settings.{Settings}
 use Rattle.rules.specs.declared.Event.{Event}
-use Rattle.rules.specs.declared.Scoring.{Scoring}
-use Rattle.rules.specs.declared.Scoring.TheVariants.{Scored, Unscored}
-use Rattle.rules.specs.declared.Taken.{Taken}
-use Rattle.rules.specs.declared.Taken.TheVariants.{Accepted, Refused}
-use Rattle.rules.specs.declared.Listed.{Listed}
-use Rattle.rules.specs.declared.Listed.TheVariants.{Events, Turned}
-use Rattle.rules.specs.declared.Traced.{Traced}
-use Rattle.rules.specs.declared.Traced.TheVariants.{Halves, Untraced}
+use Rattle.rules.specs.declared.Refusal.{Refusal}
+use Rattle.rules.specs.declared.Score.{Score}
+use Rattle.rules.specs.declared.Reason.{Reason}
 
 -- seven numbers as settings, eleven as an event
 abbrev pub settings_from : (n r f sag interruption swell hysteresis : ℕ) → Settings
@@ -39,38 +35,30 @@ event_with kind start end seen extreme retained shortfall class a b c =
       parts = record { a = a; b = b; c = c };
     }
 
+-- the number of a score's answer: 0, or the reason's number
+abbrev pub number_of_score : Result Score Reason → ℕ
+number_of_score (Ok x) = 0
+number_of_score (Err k) = number_of_reason k
+
 -- what the two lent floats hold after a score, and what they held where there is none
-abbrev pub severity_after : Scoring → Float → Float
-severity_after (Scored x) old = x.severity
-severity_after (Unscored k) old = old
+abbrev pub severity_after : Result Score Reason → Float → Float
+severity_after (Ok x) old = x.severity
+severity_after (Err k) old = old
 
-abbrev pub energy_after : Scoring → Float → Float
-energy_after (Scored x) old = x.energy
-energy_after (Unscored k) old = old
+abbrev pub energy_after : Result Score Reason → Float → Float
+energy_after (Ok x) old = x.energy
+energy_after (Err k) old = old
 
--- the lister's answer: 0 and the number of events, or the refusal's number and its place
-abbrev pub number_of_listed : Listed → ℕ
-number_of_listed (Events n) = 0
-number_of_listed (Turned r) = number_of r
+-- the number of a call's answer, whatever it gives: 0, or the refusal's number
+abbrev pub number_of_answer : {A : Type 0} → Result A Refusal → ℕ
+number_of_answer (Ok x) = 0
+number_of_answer (Err r) = number_of r
 
-abbrev pub answer_of_listed : Listed → ℕ
-answer_of_listed (Events n) = n
-answer_of_listed (Turned r) = place_in r
+-- and what is told beside it, or the refusal's place: how many are written, and 0 where the call gives nothing
+abbrev pub count_or_place : Result ℕ Refusal → ℕ
+count_or_place (Ok n) = n
+count_or_place (Err r) = place_in r
 
--- the answer of the call that tells each half-cycle: 0 and their number, or the refusal's number and its place
-abbrev pub number_of_traced : Traced → ℕ
-number_of_traced (Halves n) = 0
-number_of_traced (Untraced r) = number_of r
-
-abbrev pub answer_of_traced : Traced → ℕ
-answer_of_traced (Halves n) = n
-answer_of_traced (Untraced r) = place_in r
-
--- the answer of a call that takes or refuses: 0 and 0, or the refusal's number and its place
-abbrev pub number_of_taken : Taken → ℕ
-number_of_taken Accepted = 0
-number_of_taken (Refused r) = number_of r
-
-abbrev pub place_of_taken : Taken → ℕ
-place_of_taken Accepted = 0
-place_of_taken (Refused r) = place_in r
+abbrev pub place_of_answer : Result ⊤ Refusal → ℕ
+place_of_answer (Ok x) = 0
+place_of_answer (Err r) = place_in r

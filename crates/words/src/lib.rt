@@ -3,12 +3,12 @@
 #![tactic(auto)]
 
 ghost use Rattle.std.specs.Prelude.{◌≡◌};
+ghost use Rattle.rules.specs.Scores.{number_of_reason};
 ghost use Rattle.rules.specs.Refusals.{number_of, place_in};
-ghost use Rattle.words.specs.Numbers.{settings_from, event_with, number_of_taken, place_of_taken};
+ghost use Rattle.words.specs.Numbers.{settings_from, event_with, number_of_answer, place_of_answer};
 ghost use Rattle.words.specs.Words.{table_from, table_words};
 
-use numbers::copy;
-use rules::{Event, Refusal, Settings, Sums, Table, Taken};
+use rules::{Event, Reason, Refusal, Settings, Sums, Table};
 
 // Seven numbers as settings.
 pub fn settings(
@@ -62,6 +62,13 @@ pub fn event(
     }
 }
 
+// The number of a reason.
+pub fn number_of_reason(reason: Reason) -> u64
+    ensures { result ≡ number_of_reason reason }
+{
+    reason as u64
+}
+
 // A refusal's number.
 pub fn number_of(refusal: Refusal) -> u64
     ensures { result ≡ number_of refusal }
@@ -97,6 +104,7 @@ pub fn place_in(refusal: Refusal) -> u64
 }
 
 // The table that 60 numbers are.
+#[tactic(auto, unfolding(crate::specs::Words::table_from))]
 pub fn table_of(words: [u64; 60]) -> Table
     ensures { result ≡ table_from words }
 {
@@ -104,7 +112,7 @@ pub fn table_of(words: [u64; 60]) -> Table
         words[0], words[1], words[2], words[3], words[4], words[5], words[6],
     );
     let mut cells = [0; 40];
-    copy(&words[12..52], &mut cells, 0);
+    cells.copy_from_slice(&words[12..52]);
     Table {
         settings,
         set: words[7],
@@ -127,11 +135,11 @@ pub fn table_of(words: [u64; 60]) -> Table
 }
 
 // A table's 60 numbers.
+#[tactic(auto, unfolding(crate::specs::Words::table_words))]
 pub fn words_of(t: Table) -> [u64; 60]
     ensures { result ≡ table_words t }
 {
     let s = t.settings;
-    let cells = t.cells;
     let head = [
         s.n,
         s.r,
@@ -158,28 +166,28 @@ pub fn words_of(t: Table) -> [u64; 60]
         parts.c,
     ];
     let mut w = [0; 60];
-    copy(&head, &mut w, 0);
-    copy(&tail, &mut w, 52);
-    copy(&cells, &mut w, 12);
+    w[..12].copy_from_slice(&head);
+    w[52..].copy_from_slice(&tail);
+    w[12..52].copy_from_slice(&t.cells);
     w
 }
 
 // The number of an answer that takes or refuses: 0 where it takes.
-pub fn number_of_taken(taken: Taken) -> u64
-    ensures { result ≡ number_of_taken taken }
+pub fn number_of_taken(taken: Result<(), Refusal>) -> u64
+    ensures { result ≡ number_of_answer taken }
 {
     match taken {
-        Taken::Accepted => 0,
-        Taken::Refused(refusal) => number_of(refusal),
+        Ok(()) => 0,
+        Err(refusal) => number_of(refusal),
     }
 }
 
 // Its place: 0 where it takes.
-pub fn place_of_taken(taken: Taken) -> u64
-    ensures { result ≡ place_of_taken taken }
+pub fn place_of_taken(taken: Result<(), Refusal>) -> u64
+    ensures { result ≡ place_of_answer taken }
 {
     match taken {
-        Taken::Accepted => 0,
-        Taken::Refused(refusal) => place_in(refusal),
+        Ok(()) => 0,
+        Err(refusal) => place_in(refusal),
     }
 }

@@ -7,6 +7,6 @@ pub returns-then-known_set : goal.returns-then-known_set
 unfolding set_check
 returns-then-known_set c = simp (sym c.known_set.ensures ∙ c.if-known_set.true)
 
-pub returns : goal.returns
+pub returns-else-known_set : goal.returns-else-known_set
 unfolding set_check
-returns c = simp (sym c.known_set.ensures ∙ c.if-known_set.false)
+returns-else-known_set c = simp (sym c.known_set.ensures ∙ c.if-known_set.false)

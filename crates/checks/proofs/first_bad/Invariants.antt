@@ -1,18 +1,12 @@
 -- The first bad sample from place i on is the first of all: none before the place asked for is bad. Assumes nothing.
 use Prim.Native.Nat.{ℕ, ◌-◌, ◌≤◌}
-use mathlib.Core.Path.{◌≡◌, sym, ap, ◌∙◌}
+use mathlib.Core.Path.{◌≡◌}
 use mathlib.Core.Bool.{Bool}
 use mathlib.Core.List.{List}
-use native.Mathlib.Omega.{arith}
-use borrow.Author.Tests.{not-true, not-false}
 use lib.IntN.{ℤ, pos}
 use lib.ListN.{length, get_or}
-use mir.Syntax.{w32}
-use mir.ValLaws.{to_z-of_z}
 use Rattle.rules.specs.Bounded.{first_not}
 use Rattle.rules.specs.Recorder.{in_range, first_bad}
-use Rattle.rules.proofs.Runs.{first_go, first_stop, first_end}
-use Rattle.checks.proofs.Tests.{first_from}
 use Rattle.checks.proofs.first_bad.Given as goal
 
 -- The first bad sample from place i on is the first of all: none before the place asked for is bad. Assumes nothing.

@@ -1,55 +1,60 @@
 -- The laws of counting on, where all is passed over and where the machine takes a half-cycle. Assumes nothing.
-use Prim.Native.Nat.{◌+◌, ◌<◌}
-use mathlib.Core.Path.{◌≡◌}
-use Rattle.rules.specs.Halves.{half_at}
+use Rattle.std.proofs.Common.{◌≡◌, ◌+◌, ◌<◌, cond, arith}
+use Rattle.rules.specs.Halves.{Half, half_at}
 use Rattle.checks.specs.Flags.{as_read}
-use Rattle.halves.specs.Steps.{step_at}
-use native.Mathlib.Omega.{arith}
-use Rattle.counts.proofs.Counting.{high, counted_all, ask_step, step-sums, next-sums, half_is, ask_turn, counted_one}
-use Rattle.counts.proofs.count_next.Goals.{After-joined, Else-k-halves}
+use Rattle.halves.specs.Steps.{step_at, joined_of}
+use Rattle.quiet.specs.Quiet.{quiet_till}
+use Rattle.counts.specs.Counting.{going_on}
+use Rattle.counts.proofs.Counting.{high, next_ranged, counted_all, step-sums, next-sums, half_is, ask_turn, counted_one}
+use Rattle.counts.proofs.count_next.Goals.{After-calm_from-calm, Else-k-recording}
 use Rattle.counts.proofs.count_next.Goals as goal
 
+-- where the quiet half-cycles end
+stop_is : (c : After-calm_from-calm)
+    → let r = c.args.recording.now in c.calm_from-calm.result.k ≡ cond (going_on c.args.t) c.args.from (quiet_till r.settings r.samples.now c.args.from r.halves)
+stop_is c = rw c.any.ensures at c.calm_from-calm.ensures.k_is
+
 -- past the test there is a half-cycle for the machine
-inside : (c : Else-k-halves) → c.calm_from-calm.result.k < c.args.halves
-inside c =
-    omega (arith, high c.requires _ c.calm_from-calm.ensures.k_is, c.if-k-halves.false)
+inside : (c : Else-k-recording) → c.calm_from-calm.result.k < c.args.recording.now.halves
+inside c = omega (arith, high c.requires _ (stop_is c.before.before.before), c.if-k-recording.false)
 
 -- and its second step is at hand
-next : (c : Else-k-halves) → let a = c.args in c.calm_from-calm.result.next ≡ step_at a.s a.samples.now (c.calm_from-calm.result.k + 1)
+next : (c : Else-k-recording)
+    → let r = c.args.recording.now in c.calm_from-calm.result.next ≡ step_at r.settings r.samples.now (c.calm_from-calm.result.k + 1)
 next c = c.calm_from-calm.ensures.next (inside c)
 
-half : (c : After-joined)
-    → let a = c.args in c.joined.result ≡ half_at a.s (as_read a.samples.now) c.calm_from-calm.result.k
-half c =
-    let e = c.calm_from-calm.ensures in
-    half_is c.requires _ e.k_is (inside c.before) _ _ _ e.step (next c.before) c.joined.ensures
+-- which makes the half-cycle that the machine takes
+half : (c : Else-k-recording) (v : Half) → v ≡ joined_of c.calm_from-calm.result.step c.calm_from-calm.result.next
+    → let r = c.args.recording.now in v ≡ half_at r.settings (as_read r.samples.now) c.calm_from-calm.result.k
+half c v e = half_is c.requires _ (stop_is c.before.before.before) (inside c) _ _ v c.calm_from-calm.ensures.step (next c) e
 
-pub returns-then-k-halves : goal.returns-then-k-halves
-returns-then-k-halves c =
-    counted_all c.requires _ c.calm_from-calm.ensures.k_is _ c.calm_from-calm.ensures.step c.if-k-halves.true
+pub returns-then-k-recording : goal.returns-then-k-recording
+returns-then-k-recording c = counted_all c.requires _ (stop_is (goal.at.returns-then-k-recording c).After-calm_from-calm) _ c.calm_from-calm.ensures.step c.if-k-recording.true
+
+pub overflow_add-k : goal.overflow_add-k
+overflow_add-k c = omega (arith, inside (goal.at.overflow_add-k c).Else-k-recording)
+
+pub overflow_add-result : goal.overflow_add-result
+overflow_add-result c = omega (arith, inside (goal.at.overflow_add-result c).Else-k-recording)
+
+pub check_step-requires : goal.check_step-requires
+check_step-requires c =
+    let e = (goal.at.check_step-requires c).Else-k-recording in
+    (omega (arith, inside e), next e, next_ranged c.requires _ (stop_is (goal.at.check_step-requires c).After-calm_from-calm))
 
 pub joined-requires : goal.joined-requires
 joined-requires c =
-    let v = c.requires in
-    let e = c.calm_from-calm.ensures in
-    (step-sums v _ e.k_is (inside c) _ e.step, next-sums v _ e.k_is (inside c) _ (next c))
+    let e = (goal.at.joined-requires c).Else-k-recording in
+    let is = stop_is (goal.at.joined-requires c).After-calm_from-calm in
+    (step-sums c.requires _ is (inside e) _ c.calm_from-calm.ensures.step, next-sums c.requires _ is (inside e) _ (next e))
 
 pub count_turn-requires : goal.count_turn-requires
 count_turn-requires c =
-    ask_turn c.requires _ c.calm_from-calm.ensures.k_is (inside (goal.at.count_turn-requires c).Else-k-halves) _ (half c)
-
-pub overflow_add-result : goal.overflow_add-result
-overflow_add-result c = omega (arith, inside (goal.at.overflow_add-result c).Else-k-halves)
-
-pub overflow_add-k : goal.overflow_add-k
-overflow_add-k c = omega (arith, inside (goal.at.overflow_add-k c).Else-k-halves)
-
-pub step_in_range-requires : goal.step_in_range-requires
-step_in_range-requires c =
-    let v = c.requires in
-    (v.reading.good-settings, v.reading.shaped, ask_step v _ c.calm_from-calm.ensures.k_is (inside (goal.at.step_in_range-requires c).Else-k-halves), next (goal.at.step_in_range-requires c).Else-k-halves)
+    let e = (goal.at.count_turn-requires c).Else-k-recording in
+    ask_turn c.requires _ (stop_is (goal.at.count_turn-requires c).After-calm_from-calm) (inside e) _ (half e _ c.joined.ensures)
 
 pub returns : goal.returns
 returns c =
-    counted_one c.requires _ c.calm_from-calm.ensures.k_is (inside (goal.at.returns c).Else-k-halves) _ _ _ _ (half (goal.at.returns c).After-joined) c.count_turn.ensures
-    (next (goal.at.returns c).Else-k-halves) c.step_in_range.ensures
+    let e = (goal.at.returns c).Else-k-recording in
+    counted_one c.requires _ (stop_is (goal.at.returns c).After-calm_from-calm) (inside e) _ _ _ (half e _ c.joined.ensures) c.count_turn.ensures (next e)
+    c.in_ok-check_step.ensures

@@ -1,6 +1,6 @@
 -- The invariant: the lowest and the highest sample tell whether one so far lies outside the limits, and each sum is that of the rules, wrapped. The measure is
 -- what is left of the samples. Assumes nothing.
-use Rattle.std.proofs.Common.{◌≡◌, ℕ, ◌+◌, ◌-◌, ◌*◌, Bool, ◌||◌, get_or, pos, sym, ap, ◌∙◌, arith, w32, to_z}
+use Rattle.std.proofs.Common.{◌≡◌, ℕ, ◌+◌, ◌*◌, Bool, ◌||◌, get_or, pos, sym, refl, ap, ◌∙◌, arith, w32, to_z}
 use mir.ValLaws.{to_z-of_z}
 use Rattle.rules.specs.Halves.{samples_of, square}
 use Rattle.halves.specs.Steps.{outside_in}
@@ -32,16 +32,16 @@ loop-i-preserved c =
     let e₀ : 3 * i + 0 ≡ 3 * i = omega arith in (
       omega (arith, c.loop-i-test.true),
       low-more w i (to_z w32 l.low-bits) _ _ _ _ _ _ l.invariant.1 ex ey ez
-          (to_z-of_z w32 c.lesser.result (record { sfits = c.lesser.type_inv }) ∙ c.lesser.ensures)
-          (to_z-of_z w32 c.lesser-in-loop-i.result (record { sfits = c.lesser-in-loop-i.type_inv }) ∙ c.lesser-in-loop-i.ensures)
-          (to_z-of_z w32 c.lesser-low.result (record { sfits = c.lesser-low.type_inv }) ∙ c.lesser-low.ensures),
+          (to_z-of_z w32 c.min.result (record { sfits = c.min.type_inv }) ∙ c.min.ensures.value)
+          (to_z-of_z w32 c.min-in-loop-i.result (record { sfits = c.min-in-loop-i.type_inv }) ∙ c.min-in-loop-i.ensures.value)
+          (to_z-of_z w32 c.min-low.result (record { sfits = c.min-low.type_inv }) ∙ c.min-low.ensures.value),
       high-more w i (to_z w32 l.high-bits) _ _ _ _ _ _ l.invariant.2 ex ey ez
-          (to_z-of_z w32 c.greater.result (record { sfits = c.greater.type_inv }) ∙ c.greater.ensures)
-          (to_z-of_z w32 c.greater-in-loop-i.result (record { sfits = c.greater-in-loop-i.type_inv }) ∙ c.greater-in-loop-i.ensures)
-          (to_z-of_z w32 c.greater-high.result (record { sfits = c.greater-high.type_inv }) ∙ c.greater-high.ensures),
-      sum_more w 0 i _ _ _ l.invariant.3 (c.square.ensures ∙ ap square ex ∙ ap (λ (j : ℕ). square (get_or w j (pos 0))) (sym e₀)) c.wrapping_add_u64-a.ensures.value,
-      sum_more w 1 i _ _ _ l.invariant.4 (c.square-in-loop-i.ensures ∙ ap square ey) c.wrapping_add_u64-b.ensures.value,
-      sum_more w 2 i _ _ _ l.invariant.5 (c.square-in-loop-i-2.ensures ∙ ap square ez) c.wrapping_add_u64-c.ensures.value,
+          (to_z-of_z w32 c.max.result (record { sfits = c.max.type_inv }) ∙ c.max.ensures.value)
+          (to_z-of_z w32 c.max-in-loop-i.result (record { sfits = c.max-in-loop-i.type_inv }) ∙ c.max-in-loop-i.ensures.value)
+          (to_z-of_z w32 c.max-high.result (record { sfits = c.max-high.type_inv }) ∙ c.max-high.ensures.value),
+      sum_more w 0 i _ _ _ l.invariant.3 (c.square-a.ensures ∙ ap square ex ∙ ap (λ (j : ℕ). square (get_or w j (pos 0))) (sym e₀)) refl,
+      sum_more w 1 i _ _ _ l.invariant.4 (c.square-b.ensures ∙ ap square ey) refl,
+      sum_more w 2 i _ _ _ l.invariant.5 (c.square-c.ensures ∙ ap square ez) refl,
     )
 
 pub returns-then-is_too_low-is_too_high : goal.returns-then-is_too_low-is_too_high

@@ -6,4 +6,4 @@ use Rattle.known.proofs.write_line.Goals as goal
 
 pub write_events-requires : goal.write_events-requires
 write_events-requires g c =
-    omega (arith, events_fit _ _ _ _ (sym c.list-listed.ensures.value ∙ c.in-Events.is), c.list-listed.auto.out)
+    omega (arith, events_fit _ _ _ _ (sym c.list-listed.ensures.value ∙ c.in-Ok.is), c.list-listed.auto.out)

@@ -5,4 +5,4 @@ use Rattle.ledger.proofs.follow.Goals as goal
 
 pub returns : goal.returns
 unfolding tracked_by
-returns c = rw (c.step-sag.ensures, c.goes_on-interruption.ensures, c.goes_on-swell.ensures)
+returns c = rw (c.is_some.ensures, c.step.ensures, c.goes_on.ensures, c.goes_on-2.ensures)

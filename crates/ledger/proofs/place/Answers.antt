@@ -18,8 +18,5 @@ offset_bounds-cells-c c = omega (arith, small c)
 pub bounds-cells-c : goal.bounds-cells-c
 bounds-cells-c c = small (goal.at.bounds-cells-c c).After-cell_at-c
 
-pub offset_bounds-cells-c-then-ends-o : goal.offset_bounds-cells-c-then-ends-o
-offset_bounds-cells-c-then-ends-o c = omega (arith, small (goal.at.offset_bounds-cells-c-then-ends-o c).After-cell_at-c)
-
-pub bounds-cells-c-then-ends-o : goal.bounds-cells-c-then-ends-o
-bounds-cells-c-then-ends-o c = small (goal.at.bounds-cells-c-then-ends-o c).After-cell_at-c
+pub bounds-cells-c-then-o-known : goal.bounds-cells-c-then-o-known
+bounds-cells-c-then-o-known c = small (goal.at.bounds-cells-c-then-o-known c).After-cell_at-c

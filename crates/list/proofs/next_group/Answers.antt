@@ -1,9 +1,8 @@
 -- The first such group from i on is the first of all. Assumes nothing.
-use Prim.Native.Nat.{ℕ, ◌-◌}
+use Prim.Native.Nat.{ℕ}
 use mathlib.Core.Path.{◌≡◌, refl, sym, ◌∙◌}
 use mathlib.Core.Bool.{Bool, beq, true, false, false≢true}
 use mathlib.Core.List.{List}
-use native.Mathlib.Omega.{arith}
 use lib.ListN.{get_or}
 use Rattle.rules.proofs.Runs.{first_go}
 use Rattle.list.specs.Listing.{differs}
@@ -20,8 +19,6 @@ other-so false false e = absurd (false≢true (sym e))
 
 pub loop-i-preserved : goal.loop-i-preserved
 loop-i-preserved c =
-    let a = c.args in (
-      omega (arith, c.loop-i-test.true),
-      sym (first_go (other a.notes.now a.noted) c.loop-i.i a.groups c.loop-i-test.true (other-so (get_or a.notes.now c.loop-i.i false) a.noted c.if-notes-i.false))
-          ∙ c.loop-i.invariant.1,
-    )
+    let a = c.args in
+    sym (first_go (other a.notes.now a.noted) c.loop-i.i a.groups c.loop-i-test.true (other-so (get_or a.notes.now c.loop-i.i false) a.noted c.if-notes-i.false))
+    ∙ c.loop-i.invariant

@@ -7,13 +7,13 @@ use Rattle.list.proofs.Groups.{from-high, to_high, run_asks, written}
 use Rattle.list.proofs.write_next.Goals.{After-next_group-from, After-next_group-to, Start}
 use Rattle.list.proofs.write_next.Goals as goal
 
-few : (c : Start) → c.args.halves ≤ 100000
-few c = omega (arith, c.requires.halves_are, (accepted_recording _ _ c.requires.accepted).few)
+few : (c : Start) → c.args.recording.now.halves ≤ 100000
+few c = omega (arith, c.args.recording.now.counted, (accepted_recording _ _ c.requires.accepted).few)
 
-begin-high : (c : After-next_group-from) → c.next_group-from.result ≤ c.args.halves / 4
+begin-high : (c : After-next_group-from) → c.next_group-from.result ≤ c.args.recording.now.halves / 4
 begin-high c = from-high c.requires _ (add-one _) _ c.next_group-from.ensures
 
-end_high : (c : After-next_group-to) → c.next_group-to.result ≤ c.args.halves / 4 + 1
+end_high : (c : After-next_group-to) → c.next_group-to.result ≤ c.args.recording.now.halves / 4 + 1
 end_high c = to_high c.requires _ (add-one _) _ c.next_group-from.ensures _ c.next_group-to.ensures
 
 pub next_group-to-requires : goal.next_group-to-requires

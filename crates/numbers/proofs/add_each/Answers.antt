@@ -1,5 +1,4 @@
--- The first `k` numbers are added already, the others are as they were. The measure is what is left of them. Assumes nothing.
-use Prim.Native.Nat.{◌-◌}
+-- The first `k` numbers are added already, the others are as they were. Assumes nothing.
 use mathlib.Core.Path.{◌∙◌}
 use native.Mathlib.Omega.{arith}
 use lib.ListN.{length-set}

@@ -1,6 +1,6 @@
--- The invariant: the first half-cycle from k on that is not quiet is the first of all, and the step is that of k. The measure is what is
--- left of the half-cycles. Assumes nothing.
-use Prim.Native.Nat.{ℕ, ◌+◌, ◌-◌, ◌<◌}
+-- The invariant: the first half-cycle from k on that is not quiet is the first of all, and the step is that of k. Assumes
+-- nothing.
+use Prim.Native.Nat.{ℕ, ◌+◌, ◌<◌}
 use mathlib.Core.Path.{◌≡◌, sym, ap, ◌∙◌}
 use mathlib.Core.Bool.{Bool}
 use mathlib.Core.List.{List}
@@ -16,7 +16,7 @@ use Rattle.halves.specs.Steps.{step_at, joined_of}
 use Rattle.halves.proofs.Steps.{step_addable}
 use Rattle.quiet.specs.Quiet.{is_quiet}
 use Rattle.quiet.proofs.Quiet.{quiet_told}
-use Rattle.quiet.proofs.Stretches.{half_here, few_here}
+use Rattle.quiet.proofs.Stretches.{reads, half_here, few_here}
 use Rattle.quiet.proofs.pass_quiet.Goals.{After-is_quiet, After-joined, In-loop-k}
 use Rattle.quiet.proofs.pass_quiet.Goals as goal
 
@@ -31,42 +31,41 @@ below t = omega (arith, t.loop-k-test.true)
 
 -- the half-cycle that the two steps make
 half_is : (c : After-joined)
-    → c.joined.result ≡ half_at c.args.s (as_read c.args.samples.now) (at c.before.before)
+    → c.joined.result ≡ half_at c.args.recording.now.settings (as_read c.args.recording.now.samples.now) (at c.before.before.before)
 half_is c =
     c.joined.ensures
-    ∙ ap (λ v. joined_of v c.step_at-next.result) c.loop-k.invariant.1
-    ∙ ap (joined_of (step_at c.args.s c.args.samples.now (at c.before.before))) (c.step_at-next.ensures ∙ ap (step_at c.args.s c.args.samples.now) (add-one (at c.before.before)))
-    ∙ half_here c.requires (at c.before.before) (below c.before.before)
+    ∙ ap (λ v. joined_of v c.step_at-next.result) c.loop-k.invariant.0
+    ∙ ap (joined_of (step_at c.args.recording.now.settings c.args.recording.now.samples.now (at c.before.before.before))) (c.step_at-next.ensures ∙ ap (step_at c.args.recording.now.settings c.args.recording.now.samples.now) (add-one (at c.before.before.before)))
+    ∙ half_here (reads _ _ _ _ c.requires) (at c.before.before.before) (below c.before.before.before)
 
 told : (c : After-is_quiet)
-    → c.is_quiet.result ≡ quiet c.args.s c.args.samples.now (at c.before.before.before)
+    → c.is_quiet.result ≡ quiet c.args.recording.now.settings c.args.recording.now.samples.now (at c.before.before.before.before)
 told c =
-    quiet_told _ (good _ c.requires.good-settings) _ _ _ _ c.requires.thresholds (half_is c.before) c.is_quiet.ensures
+    quiet_told _ (good _ c.args.recording.now.good) _ _ _ _ c.args.recording.now.marked (half_is c.before) c.is_quiet.ensures
 
 pub joined-requires : goal.joined-requires
 joined-requires c =
-    let g = good c.args.s c.requires.good-settings in (
-      rw c.loop-k.invariant.1 (step_addable c.args.s c.args.samples.now g c.requires.shaped (at (goal.at.joined-requires c).In-loop-k) (omega (arith, below (goal.at.joined-requires c).In-loop-k, c.requires.high))),
-      rw c.step_at-next.ensures (step_addable c.args.s c.args.samples.now g c.requires.shaped (at (goal.at.joined-requires c).In-loop-k + 1) (omega (arith, below (goal.at.joined-requires c).In-loop-k, c.requires.high))),
+    let g = good c.args.recording.now.settings c.args.recording.now.good in (
+      rw c.loop-k.invariant.0 (step_addable c.args.recording.now.settings c.args.recording.now.samples.now g c.args.recording.now.shaped (at (goal.at.joined-requires c).In-loop-k) (omega (arith, below (goal.at.joined-requires c).In-loop-k, c.requires.high))),
+      rw c.step_at-next.ensures (step_addable c.args.recording.now.settings c.args.recording.now.samples.now g c.args.recording.now.shaped (at (goal.at.joined-requires c).In-loop-k + 1) (omega (arith, below (goal.at.joined-requires c).In-loop-k, c.requires.high))),
     )
 
 pub is_quiet-requires : goal.is_quiet-requires
-is_quiet-requires c = rw (half_is c) (few_here c.requires _)
+is_quiet-requires c = rw (half_is c) (few_here (reads _ _ _ _ c.requires) _)
 
 pub returns-then-not-is_quiet : goal.returns-then-not-is_quiet
 returns-then-not-is_quiet c =
     record {
       k_is =
-          sym (first_stop (quiet c.args.s c.args.samples.now) (at (goal.at.returns-then-not-is_quiet c).In-loop-k) c.args.to (below (goal.at.returns-then-not-is_quiet c).In-loop-k) (sym (told (goal.at.returns-then-not-is_quiet c).After-is_quiet) ∙ c.if-not-is_quiet.true))
-          ∙ c.loop-k.invariant.2;
-      step = c.loop-k.invariant.1;
+          sym (first_stop (quiet c.args.recording.now.settings c.args.recording.now.samples.now) (at (goal.at.returns-then-not-is_quiet c).In-loop-k) c.args.to (below (goal.at.returns-then-not-is_quiet c).In-loop-k) (sym (told (goal.at.returns-then-not-is_quiet c).After-is_quiet) ∙ c.if-not-is_quiet.true))
+          ∙ c.loop-k.invariant.1;
+      step = c.loop-k.invariant.0;
       next = λ l. c.step_at-next.ensures;
     }
 
 pub loop-k-preserved : goal.loop-k-preserved
 loop-k-preserved c = (
-  omega (arith, below (goal.at.loop-k-preserved c).In-loop-k),
   c.step_at-next.ensures,
-  sym (first_go (quiet c.args.s c.args.samples.now) (at (goal.at.loop-k-preserved c).In-loop-k) c.args.to (below (goal.at.loop-k-preserved c).In-loop-k) (sym (told (goal.at.loop-k-preserved c).After-is_quiet) ∙ c.if-not-is_quiet.false))
-      ∙ c.loop-k.invariant.2,
+  sym (first_go (quiet c.args.recording.now.settings c.args.recording.now.samples.now) (at (goal.at.loop-k-preserved c).In-loop-k) c.args.to (below (goal.at.loop-k-preserved c).In-loop-k) (sym (told (goal.at.loop-k-preserved c).After-is_quiet) ∙ c.if-not-is_quiet.false))
+      ∙ c.loop-k.invariant.1,
 )

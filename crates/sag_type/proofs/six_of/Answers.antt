@@ -1,67 +1,69 @@
 -- The six numbers are the six sums over the samples passed, and low. Assumes nothing.
-use Prim.Native.Nat.{ℕ, ◌+◌, ◌-◌, ◌*◌, ◌<◌, ◌≤◌}
-use mathlib.Core.Path.{◌≡◌, sym, ap, ap₂, ◌∙◌}
-use mathlib.Core.List.{List}
-use native.Mathlib.Numerals.{add-one}
-use native.Mathlib.Omega.{arith}
-use lib.IntN.{ℤ, pos, nat_abs}
-use lib.ListN.{get_or}
-use mir.Syntax.{w32}
-use mir.Val.{to_z, of_z}
-use mir.ValLaws.{to_z-of_z}
+use Rattle.std.proofs.Common.{rules, ◌≡◌, ℕ, ◌<◌, ◌≤◌, ◌*◌, ◌+◌, ◌∙◌, ◌++◌, [], ◌∷◌, drop, sym, ap, ap₂, arith, add-one, length, length-append, length-drop, get_or, ℤ, pos, nat_abs}
+use Rattle.std.specs.Slice.Iter.{chunks_exact_rest}
 use Rattle.rules.specs.Recorder.{sample_at}
 use Rattle.rules.specs.Halves.{samples_of}
 use Rattle.rules.specs.Events.{six_parts, plus}
 use Rattle.sag_type.specs.Six.{six_up_to, six_in}
-use Rattle.sag_type.proofs.Sixes.{parts_low, six_low}
-use Rattle.sag_type.proofs.six_of.Goals.{After-six_parts, After-six_parts-arg-1, After-six_parts-arg-in-loop-i-1, After-six_parts-arg-in-loop-i-2-1, In-loop-i}
+use Rattle.sag_type.proofs.Sixes.{parts_low, six_low, sample_in, rest_in, more_samples}
+use Rattle.sag_type.proofs.six_of.Goals.{In-Some, After-six_parts}
 use Rattle.sag_type.proofs.six_of.Goals as goal
 
-abbrev ws : In-loop-i → List ℤ
-ws t = t.args.w.now
+abbrev at : In-Some → ℕ
+at c = length c.loop-sample.yielded
 
-abbrev at : In-loop-i → ℕ
-at t = t.loop-i.i
+abbrev x : In-Some → ℕ → ℤ
+x c n = sample_at c.args.w.now n (at c)
 
-abbrev x : In-loop-i → ℕ → ℤ
-x t c = sample_at (ws t) c (at t)
+-- what is left begins with the three numbers of a sample
+left : (c : In-Some) → drop (3 * at c) c.args.w.now ≡ c.in-Some.sample.now ++ chunks_exact_rest c.next.new.self
+left c = sym c.loop-sample.invariant.rest_is ∙ c.in-Some.ensures.steps.1.0
 
-is-low : (t : In-loop-i) (c : ℕ) → c < 3 → nat_abs (x t c) ≤ 100000
-is-low t c l = t.requires.low (3 * at t + c) (omega arith)
+three : (c : In-Some) → length c.in-Some.sample.now ≡ 3
+three c = c.in-Some.ensures.steps.1.1 ∙ c.loop-sample.invariant.in_threes
 
--- the three samples are read as they stand
-read_a : (c : After-six_parts-arg-1)
-    → to_z w32 (of_z w32 (get_or (ws c.before) (3 * at c.before) (pos 0))) ≡ x c.before 0
-read_a c =
-    let e : 3 * at c.before + 0 ≡ 3 * at c.before = omega arith in
-    rw e (to_z-of_z w32 (get_or (ws c.before) (3 * at c.before) (pos 0)) (record { sfits = c.six_parts-arg-1.given }))
+read : (c : In-Some) (n : ℕ) → n < 3 → get_or c.in-Some.sample.now n (pos 0) ≡ x c n
+read c n l = sample_in c.args.w.now c.in-Some.sample.now (chunks_exact_rest c.next.new.self) (at c) (left c) (three c) n l
 
-read-b : (c : After-six_parts-arg-in-loop-i-1) → to_z w32 (of_z w32 (x c.before.before 1)) ≡ x c.before.before 1
-read-b c = to_z-of_z w32 (x c.before.before 1) (record { sfits = c.six_parts-arg-in-loop-i-1.given })
+more : (c : In-Some) → at c + 1 ≤ samples_of c.args.w.now
+more c = more_samples c.args.w.now c.in-Some.sample.now (chunks_exact_rest c.next.new.self) (at c) (left c) (three c)
 
-read-c : (c : After-six_parts-arg-in-loop-i-2-1)
-    → to_z w32 (of_z w32 (x c.before.before.before 2)) ≡ x c.before.before.before 2
-read-c c = to_z-of_z w32 (x c.before.before.before 2) (record { sfits = c.six_parts-arg-in-loop-i-2-1.given })
+is-low : (c : In-Some) (n : ℕ) → n < 3 → nat_abs (x c n) ≤ 100000
+is-low c n l = c.requires.low (3 * at c + n) (omega (arith, more c))
 
 parts_are : (c : After-six_parts)
-    → c.six_parts.result ≡ six_parts (x c.before.before.before.before 0) (x c.before.before.before.before 1) (x c.before.before.before.before 2)
-parts_are c = rw (c.six_parts.ensures, read_a c.before.before.before, read-b c.before.before, read-c c.before)
+    → let t = c.before.before.before.before in
+    c.six_parts.result ≡ six_parts (x t 0) (x t 1) (x t 2)
+parts_are c =
+    let t = c.before.before.before.before in
+    let n = c.in-Some.sample.now in
+    let parts : c.six_parts.result ≡ six_parts (get_or n 0 (pos 0)) (get_or n 1 (pos 0)) (get_or n 2 (pos 0)) = search rules in
+    rw (parts, read t 0 (omega arith), read t 1 (omega arith), read t 2 (omega arith))
 
 pub add_six-next-requires : goal.add_six-next-requires
-add_six-next-requires c = (
-  (λ i. rw c.loop-i.invariant.1 (omega (arith, six_low (ws (goal.at.add_six-next-requires c).In-loop-i) c.requires.low (at (goal.at.add_six-next-requires c).In-loop-i) (omega arith) i))),
-  (λ i. rw (parts_are c) (omega (arith, parts_low (x (goal.at.add_six-next-requires c).In-loop-i 0) (x (goal.at.add_six-next-requires c).In-loop-i 1) (x (goal.at.add_six-next-requires c).In-loop-i 2) (is-low (goal.at.add_six-next-requires c).In-loop-i 0 (omega arith)) (is-low (goal.at.add_six-next-requires c).In-loop-i 1 (omega arith)) (is-low (goal.at.add_six-next-requires c).In-loop-i 2 (omega arith)) i))),
-)
+add_six-next-requires c =
+    let t = (goal.at.add_six-next-requires c).In-Some in (
+      (λ i. rw c.loop-sample.invariant.six_are (omega (arith, six_low c.args.w.now c.requires.low (at t) c.loop-sample.invariant.within i, more t, c.requires.few))),
+      (λ i. rw (parts_are c) (omega (arith, parts_low (x t 0) (x t 1) (x t 2) (is-low t 0 (omega arith)) (is-low t 1 (omega arith)) (is-low t 2 (omega arith)) i))),
+    )
 
-pub loop-i-preserved : goal.loop-i-preserved
-loop-i-preserved c = (
-  omega arith,
-  c.add_six-next.ensures ∙ ap₂ plus c.loop-i.invariant.1 (parts_are (goal.at.loop-i-preserved c).After-six_parts) ∙ ap (six_up_to (ws (goal.at.loop-i-preserved c).In-loop-i)) (sym (add-one (at (goal.at.loop-i-preserved c).In-loop-i))),
-)
+pub loop-sample-preserved : goal.loop-sample-preserved
+loop-sample-preserved c =
+    let t = (goal.at.loop-sample-preserved c).In-Some in
+    let p = (goal.at.loop-sample-preserved c).After-six_parts in
+    let on : length (c.loop-sample.yielded ++ c.in-Some.sample ∷ []) ≡ at t + 1 = length-append c.loop-sample.yielded (c.in-Some.sample ∷ []) in
+    record {
+      six_are = rw on (c.add_six-next.ensures ∙ ap₂ plus c.loop-sample.invariant.six_are (parts_are p) ∙ ap (six_up_to c.args.w.now) (sym (add-one (at t))));
+      rest_is = rw on (rest_in c.args.w.now c.in-Some.sample.now (chunks_exact_rest c.next.new.self) (at t) (left t) (three t));
+      in_threes = c.in-Some.ensures.steps.0 ∙ c.loop-sample.invariant.in_threes;
+      within = rw on (more t);
+    }
 
 pub returns : goal.returns
 unfolding six_in
 returns c =
     let w = c.args.w.now in
-    let e : c.loop-i.i ≡ samples_of w = omega arith in
-    c.loop-i.invariant.1 ∙ ap (six_up_to w) e
+    let k = length c.loop-sample.yielded in
+    let few : length (drop (3 * k) w) < 3 = rw (sym c.loop-sample.invariant.rest_is, sym c.loop-sample.invariant.in_threes) c.in-None.ensures.steps.1.0 in
+    let e : k ≡ samples_of w = omega (arith, few, length-drop (3 * k) w, c.loop-sample.invariant.within) in
+    c.loop-sample.invariant.six_are ∙ ap (six_up_to w) e

@@ -14,46 +14,46 @@ use Rattle.sag_type.proofs.Sixes.{six_in-low, window_six}
 use Rattle.sag_type.proofs.type_at.Goals.{After-six_of, Start}
 use Rattle.sag_type.proofs.type_at.Goals as goal
 
-is_known : (c : Start) → let a = c.args in Knows a.s a.samples.now a.k (sums_at a.s a.samples.now a.k)
+is_known : (c : Start) → let a = c.args.recording.now in let k = c.args.k in Knows a.settings a.samples.now k (sums_at a.settings a.samples.now k)
 is_known c =
-    let a = c.args in
+    let a = c.args.recording.now in let k = c.args.k in
     let xs = a.samples.now in
-    knows a.s xs a.k (sums_at a.s xs a.k) (known_is a.s xs a.k c.requires.2)
+    knows a.settings xs k (sums_at a.settings xs k) (known_is a.settings xs k c.requires.1)
 
-inside : (c : Start) → let a = c.args in 3 * begin a.s a.k + 3 * a.s.n ≤ length a.samples.now
+inside : (c : Start) → let a = c.args.recording.now in let k = c.args.k in 3 * begin a.settings k + 3 * a.settings.n ≤ length a.samples.now
 inside c =
-    let a = c.args in
+    let a = c.args.recording.now in let k = c.args.k in
     let xs = a.samples.now in
-    window-fits a.s xs (good a.s c.requires.0) (accepted_recording a.s xs c.requires.1) a.k (is_known c).exists
+    window-fits a.settings xs (good a.settings a.good) (accepted_recording a.settings xs c.requires.0) k (is_known c).exists
 
-few : (c : Start) → let a = c.args in length (window a.s a.samples.now a.k) ≤ 1536
+few : (c : Start) → let a = c.args.recording.now in let k = c.args.k in length (window a.settings a.samples.now k) ≤ 1536
 few c =
-    let a = c.args in
+    let a = c.args.recording.now in let k = c.args.k in
     let xs = a.samples.now in
-    window-few a.s xs (good a.s c.requires.0) (accepted_recording a.s xs c.requires.1) a.k (is_known c).exists
+    window-few a.settings xs (good a.settings a.good) (accepted_recording a.settings xs c.requires.0) k (is_known c).exists
 
-is-low : (c : Start) → let a = c.args in Low (window a.s a.samples.now a.k)
+is-low : (c : Start) → let a = c.args.recording.now in let k = c.args.k in Low (window a.settings a.samples.now k)
 is-low c =
-    let a = c.args in
+    let a = c.args.recording.now in let k = c.args.k in
     let xs = a.samples.now in
-    window-low a.s xs (good a.s c.requires.0) (accepted_recording a.s xs c.requires.1) a.k (is_known c).exists (is_known c).whole
+    window-low a.settings xs (good a.settings a.good) (accepted_recording a.settings xs c.requires.0) k (is_known c).exists (is_known c).whole
 
-six_are : (c : After-six_of) → let a = c.args in c.six_of.result ≡ six_in (window a.s a.samples.now a.k)
+six_are : (c : After-six_of) → let a = c.args.recording.now in let k = c.args.k in c.six_of.result ≡ six_in (window a.settings a.samples.now k)
 six_are c = c.six_of.ensures ∙ ap six_in c.window_at.ensures
 
 pub window_at-requires : goal.window_at-requires
-window_at-requires c = inside c
+window_at-requires c = inside (goal.at.window_at-requires c).Start
 
 pub sag_type-requires : goal.sag_type-requires
 sag_type-requires c =
-    let a = c.args in
-    rw (six_are c) (six_in-low (window a.s a.samples.now a.k) (is-low (goal.at.sag_type-requires c).Start) (few (goal.at.sag_type-requires c).Start))
+    let a = c.args.recording.now in let k = c.args.k in
+    rw (six_are c) (six_in-low (window a.settings a.samples.now k) (is-low (goal.at.sag_type-requires c).Start) (few (goal.at.sag_type-requires c).Start))
 
 pub returns : goal.returns
 returns c =
-    let a = c.args in
+    let a = c.args.recording.now in let k = c.args.k in
     c.sag_type.ensures
-    ∙ ap type_of (six_are (goal.at.returns c).After-six_of ∙ window_six a.s a.samples.now a.k (inside (goal.at.returns c).Start))
+    ∙ ap type_of (six_are (goal.at.returns c).After-six_of ∙ window_six a.settings a.samples.now k (inside (goal.at.returns c).Start))
 
 pub six_of-requires-clause-few : goal.six_of-requires-clause-few
 six_of-requires-clause-few c = rw c.window_at.ensures (few (goal.at.six_of-requires-clause-few c).Start)

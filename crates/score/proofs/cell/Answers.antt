@@ -2,39 +2,32 @@
 use mathlib.Core.Bool.{true}
 use mathlib.Core.Path.{◌≡◌, sym, ◌∙◌}
 use native.Mathlib.Omega.{arith}
-use borrow.Author.Tests.{eq-eqb, ne_eqb}
 use Rattle.rules.specs.Borders.{known_set}
-use Rattle.rules.specs.Scores.{reason_of}
+use Rattle.rules.specs.Scores.{reason_by}
 use Rattle.rules.specs.Site.{cell_of}
 use Rattle.rules.specs.Demands.{Scorable}
-use Rattle.rules.proofs.Scorable.{InBounds, event_bounds, scorable}
-use Rattle.rules.proofs.DemandTwo.{no_reason}
-use Rattle.score.proofs.cell.Goals.{Else-reason-ne0}
+use Rattle.rules.proofs.Scorable.{InBounds, event_bounds}
+use Rattle.score.proofs.Reasons.{sound_by, has_no_cell}
+use Rattle.score.proofs.cell.Goals.{In-None}
 use Rattle.score.proofs.cell.Goals as goal
 
-none : (c : Else-reason-ne0)
-    → let a = c.args in (known_set a.set ≡ true) × (reason_of a.s a.e ≡ 0)
-none c = no_reason _ _ _ (sym c.reason.ensures ∙ c.if-reason-ne0.false)
+sound : (c : In-None) → (known_set c.args.set ≡ true) × Scorable c.args.s c.args.e
+sound c = sound_by _ _ _ (sym c.reason.ensures ∙ c.in-None.is)
 
-sound : (c : Else-reason-ne0) → Scorable c.args.s c.args.e
-sound c = scorable _ _ (none c).1
-
-bounds : (c : Else-reason-ne0) → InBounds c.args.s c.args.e
-bounds c = event_bounds _ _ (sound c).event
-
-pub returns-then-reason-ne0 : goal.returns-then-reason-ne0
-unfolding cell_of
-returns-then-reason-ne0 c =
-    simp (ne_eqb _ _ (λ z. c.if-reason-ne0.true (c.reason.ensures ∙ z))) (c.not_scored.ensures c.args.s)
+bounds : (c : In-None) → InBounds c.args.s c.args.e
+bounds c = event_bounds _ _ (sound c).1.event
 
 pub overflow_sub-e : goal.overflow_sub-e
-overflow_sub-e c = omega (arith, (bounds (goal.at.overflow_sub-e c).Else-reason-ne0).start)
+overflow_sub-e c = omega (arith, (bounds (goal.at.overflow_sub-e c).In-None).start)
 
 pub cell_at-requires : goal.cell_at-requires
 cell_at-requires c =
-    ((sound (goal.at.cell_at-requires c).Else-reason-ne0).settings, (none (goal.at.cell_at-requires c).Else-reason-ne0).0, (bounds (goal.at.cell_at-requires c).Else-reason-ne0).extreme, omega (arith, (bounds (goal.at.cell_at-requires c).Else-reason-ne0).end))
+    let w = (goal.at.cell_at-requires c).In-None in
+    ((sound w).1.settings, (sound w).0, (bounds w).extreme, omega (arith, (bounds w).end))
 
-pub returns : goal.returns
-unfolding cell_of
-returns c =
-    simp (eq-eqb _ _ (sym c.reason.ensures ∙ c.if-reason-ne0.false), c.cell_at.ensures)
+pub returns-in-None : goal.returns-in-None
+unfolding cell_of reason_by
+returns-in-None c = rw (sym c.reason.ensures, c.in-None.is, c.cell_at.ensures)
+
+pub returns-in-Some : goal.returns-in-Some
+returns-in-Some c = c.not_scored.ensures c.args.s ∙ sym (has_no_cell _ _ _ _ (sym c.reason.ensures ∙ c.in-Some.is))

@@ -1,5 +1,5 @@
 -- `score::nearer` meets its contract: the root stays, and from any other guess it takes one of Newton's steps.
-use Prim.Native.Nat.{◌-◌, ◌*◌, ◌<◌}
+use Prim.Native.Nat.{◌*◌, ◌<◌}
 use native.Mathlib.Omega.{arith}
 use Rattle.score.proofs.Newton.{positive, step_down, step-above, step_nearer}
 use Rattle.score.proofs.nearer.Goals.{Else-r-q}

@@ -4,10 +4,10 @@ use mathlib.Core.Path.{sym, ◌∙◌}
 use Rattle.rules.specs.Refusals.{freshened}
 use Rattle.site.proofs.fresh.Goals as goal
 
-pub returns-in-Accepted : goal.returns-in-Accepted
+pub returns-in-Ok : goal.returns-in-Ok
 unfolding freshened
-returns-in-Accepted c = rw (sym c.check_making-checked.ensures ∙ c.in-Accepted.is, c.empty_table.ensures)
+returns-in-Ok c = rw (sym c.check_making.ensures ∙ c.in-Ok.is, c.empty_table.ensures)
 
-pub returns-in-Refused : goal.returns-in-Refused
+pub returns-in-Err : goal.returns-in-Err
 unfolding freshened
-returns-in-Refused c = rw (sym c.check_making-checked.ensures ∙ c.in-Refused.is, c.empty_table-in-Refused.ensures, c.no_settings.ensures)
+returns-in-Err c = c.turned_away.ensures ∙ rw (sym c.check_making.ensures ∙ c.in-Err.is, c.empty_table-in-Err.ensures, c.no_settings.ensures)

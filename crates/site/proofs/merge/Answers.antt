@@ -5,4 +5,4 @@ use Rattle.site.proofs.merge.Goals as goal
 
 pub returns : goal.returns
 unfolding merged
-returns c = rw (c.add_cells.ensures, c.add_sums-parts.ensures)
+returns c = rw (c.add_cells.ensures, c.add_sums.ensures)
