@@ -9,7 +9,7 @@ ghost use Rattle.kinds.specs.Machine.{Marked, Few};
 ghost use Rattle.counts.specs.Counting.{tallied, Counting, CountedTo, noted_at, Noted};
 
 use halves::{Recording, joined};
-use kinds::{Inside, Thresholds, level_at};
+use kinds::{Inside, Thresholds};
 use quiet::calm_from;
 use rules::{Half, Refusal};
 
@@ -43,7 +43,7 @@ fn count_turn(m: Thresholds, t: Tally, half: Half) -> Tally
     ensures { result ≡ tallied m t half }
 {
     let was = t.inside;
-    let is = was.next(m, level_at(m.full, m.sag.from, half));
+    let is = was.next(m, m.level(half));
     let up = rise(was.sag, is.sag)
         + rise(was.interruption, is.interruption)
         + rise(was.swell, is.swell);

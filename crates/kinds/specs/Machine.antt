@@ -14,6 +14,8 @@ use Rattle.kinds.specs.declared.Thresholds.{Thresholds}
 use Rattle.kinds.specs.declared.Level.{Level}
 use Rattle.kinds.specs.declared.Open.{Open}
 use Rattle.kinds.specs.declared.Inside.{Inside}
+use Rattle.kinds.specs.declared.Class.{Class}
+use Rattle.kinds.specs.declared.Class.TheVariants.{Healthy, Disturbed, Unknown}
 
 -- p percent in the unit of 10,000 x S
 abbrev pub mark_of : Settings → ℕ → ℕ
@@ -105,6 +107,12 @@ followed_by m was l =
 
 abbrev pub in_some : Inside → Bool
 in_some i = i.sag || i.interruption || i.swell
+
+-- the class of a half-cycle, by whether it is known and whether it is in an event
+abbrev pub class_of : Bool → Bool → Class
+class_of false any = Unknown
+class_of true true = Disturbed
+class_of true false = Healthy
 
 -- ---- the event that is going on
 

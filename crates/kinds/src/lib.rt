@@ -5,7 +5,7 @@ ghost use Rattle.std.specs.Prelude.{◌≡◌, true, IfSome, ◌+◌, ◌*◌, �
 ghost use Rattle.rules.specs.Recorder.{settings_good};
 ghost use Rattle.rules.specs.Halves.{full as full_of};
 ghost use Rattle.rules.specs.Events.{worse};
-ghost use Rattle.kinds.specs.Machine.{marks_of, thresholds_of, level_from, short_by, peak_of, goes_by, outside, followed_by, in_some, launched, lasting, step_by, Few, Light};
+ghost use Rattle.kinds.specs.Machine.{marks_of, thresholds_of, level_from, short_by, peak_of, goes_by, class_of, outside, followed_by, in_some, launched, lasting, step_by, Marked, Few, Light};
 
 use numbers::{add_sums, greatest, least};
 use rules::{Half, Kind, Settings, Sums};
@@ -101,6 +101,29 @@ impl Inside {
     }
 }
 
+// The classes of half-cycles, by their numbers.
+#[derive(Clone, Copy)]
+pub enum Class {
+    Healthy = 1,
+    Disturbed = 2,
+    Unknown = 3,
+}
+
+impl Class {
+    // `any` says whether the half-cycle is in an event.
+    pub fn of(known: bool, any: bool) -> Class
+        ensures { result ≡ class_of known any }
+    {
+        if !known {
+            Class::Unknown
+        } else if any {
+            Class::Disturbed
+        } else {
+            Class::Healthy
+        }
+    }
+}
+
 // p percent, with `full` for N x R x R.
 fn mark(full: u64, p: u64) -> u64
     requires { (full ≤ 1280000000000) × (p ≤ 200) }
@@ -155,25 +178,29 @@ fn short(full: u64, from: u64, sum: u64) -> u64
     0
 }
 
-// What the kinds ask of a half-cycle, if it is known; `from` is the mark at which a sag begins.
-pub fn level_at(full: u64, from: u64, half: Half) -> Option<Level>
-    requires { (from ≤ 10000 * full) × Few half }
-    ensures { result ≡ level_from full from half }
-{
-    let v = half?;
-    let least = least(v);
-    let greatest = greatest(v);
-    Some(Level {
-        least,
-        greatest,
-        low: 10000 * least,
-        high: 10000 * greatest,
-        short: Sums {
-            a: short(full, from, v.a),
-            b: short(full, from, v.b),
-            c: short(full, from, v.c),
-        },
-    })
+impl Thresholds {
+    // What the kinds ask of a half-cycle, if it is known.
+    pub fn level(self, half: Half) -> Option<Level>
+        requires { Marked self × Few half }
+        ensures { result ≡ level_from self.full self.sag.from half }
+    {
+        let v = half?;
+        let least = least(v);
+        let greatest = greatest(v);
+        let full = self.full;
+        let from = self.sag.from;
+        Some(Level {
+            least,
+            greatest,
+            low: 10000 * least,
+            high: 10000 * greatest,
+            short: Sums {
+                a: short(full, from, v.a),
+                b: short(full, from, v.b),
+                c: short(full, from, v.c),
+            },
+        })
+    }
 }
 
 // The level of the kind's extreme.

@@ -5,30 +5,18 @@
 
 ghost use Rattle.std.specs.Prelude.{◌≡◌, ◌*◌, ◌≤◌, length};
 
-use cases::{blocks, k9, settings, write_refusal};
+use cases::{blocks, dip, k9, settings, write_refusal};
 use print::Row;
-use rules::{Event, Sums};
 use std::io;
 
 // An event's eleven numbers, its reason, which is the same under both sets of borders, and its cell by each.
 fn write_event(rt: &impl Print, words: &[u64]) -> io::Result<()>
     requires { length words.now ≡ 11 }
 {
-    let e = Event {
-        kind: words[0],
-        start: words[1],
-        end: words[2],
-        seen: words[3],
-        extreme: words[4],
-        retained: words[5],
-        shortfall: words[6],
-        class: words[7],
-        parts: Sums {
-            a: words[8],
-            b: words[9],
-            c: words[10],
-        },
-    };
+    let e = words::event(
+        words[0], words[1], words[2], words[3], words[4], words[5], words[6], words[7], words[8],
+        words[9], words[10],
+    );
     let reason = match score::reason(settings(), 0, e) {
         None => 0,
         Some(why) => words::number_of_reason(why),
@@ -77,27 +65,16 @@ fn write_blocks(rt: &impl Print, name: &str, values: [i32; 8], n: usize) -> io::
 
 // 1000 1000 v v 1000 1000.
 fn write_dip(rt: &impl Print, name: &str, v: i32) -> io::Result<()> {
-    write_blocks(rt, name, [1000, 1000, v, v, 1000, 1000, 0, 0], 6)
-}
-
-fn write_k9(rt: &impl Print) -> io::Result<()> {
-    write_case(rt, "K9:", &k9(), 22)
-}
-
-// K2 on channel a only, b and c at 1000.
-fn write_k12(rt: &impl Print) -> io::Result<()> {
-    let run = blocks([1000, 1000, 500, 500, 1000, 1000, 0, 0], [1000; 8]);
-    write_case(rt, "K12:", run.split_at(72).0, 22)
+    write_case(rt, name, &dip(v, v), 22)
 }
 
 // No samples; a sample out of range; K2 with room for less than its event.
 fn write_turned_away(rt: &impl Print) -> io::Result<()> {
-    let values = [1000, 1000, 500, 500, 1000, 1000, 0, 0];
-    let mut run = blocks(values, values);
+    let mut run = dip(500, 500);
     write_case(rt, "no samples:", &[], 22)?;
-    write_case(rt, "room 10:", run.split_at(72).0, 10)?;
+    write_case(rt, "room 10:", &run, 10)?;
     run[20] = 100_001;
-    write_case(rt, "sample 100001:", run.split_at(72).0, 22)
+    write_case(rt, "sample 100001:", &run, 22)
 }
 
 fn main(rt: HostRuntime) -> io::Result<()> {
@@ -109,9 +86,9 @@ fn main(rt: HostRuntime) -> io::Result<()> {
     write_dip(&rt, "K6:", 0)?;
     write_blocks(&rt, "K7:", [1000, 1000, 100, 101, 1000, 1000, 0, 0], 6)?;
     write_blocks(&rt, "K8:", [500, 500, 1000, 1000, 0, 0, 0, 0], 4)?;
-    write_k9(&rt)?;
+    write_case(&rt, "K9:", &k9(), 22)?;
     write_dip(&rt, "K10:", 1200)?;
     write_blocks(&rt, "K11:", [500; 8], 2)?;
-    write_k12(&rt)?;
+    write_case(&rt, "K12:", &dip(500, 1000), 22)?;
     write_turned_away(&rt)
 }

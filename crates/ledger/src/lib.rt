@@ -8,7 +8,7 @@ ghost use Rattle.kinds.specs.Machine.{Light};
 ghost use Rattle.ledger.specs.Entries.{tracked_by, classed_by, started_by, ended_by, placed_by, landed_by, cells_by, Placeable, Landable, Turnable, surveyed_by, cells_turned, going_on, passed_over, start_survey};
 
 use borders::cell_at;
-use kinds::{Level, Open, Thresholds, goes_on, level_at, step};
+use kinds::{Class, Level, Open, Thresholds, goes_on, step};
 use numbers::add_sums;
 use rules::{Half, Kind, Settings, Sums};
 
@@ -79,10 +79,19 @@ fn classify(c: Classes, known: bool, any: bool) -> Classes
     requires { (c.healthy ≤ 4000000) × (c.disturbed ≤ 4000000) × (c.unknown ≤ 4000000) }
     ensures { result ≡ classed_by c known any }
 {
-    Classes {
-        healthy: bump(c.healthy, known & !any),
-        disturbed: bump(c.disturbed, known & any),
-        unknown: bump(c.unknown, !known),
+    match Class::of(known, any) {
+        Class::Healthy => Classes {
+            healthy: c.healthy + 1,
+            ..c
+        },
+        Class::Disturbed => Classes {
+            disturbed: c.disturbed + 1,
+            ..c
+        },
+        Class::Unknown => Classes {
+            unknown: c.unknown + 1,
+            ..c
+        },
     }
 }
 
@@ -157,7 +166,7 @@ pub fn survey_turn(
     ensures value { result ≡ surveyed_by m half p k }
     ensures cells_after { cells.new ≡ cells_turned s set m half p k cells.old }
 {
-    let level = level_at(m.full, m.sag.from, half);
+    let level = m.level(half);
     let known = level.is_some();
     let was = p.track;
     let is = follow(m, k, was, level);

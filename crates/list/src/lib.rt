@@ -13,7 +13,7 @@ ghost use Rattle.list.specs.Listing.{Visiting, visited, closes, Turning, Readabl
 use counts::count_events;
 use ended::{finish, put};
 use halves::{Recording, joined};
-use kinds::{Level, Marks, Open, level_at, step};
+use kinds::{Level, Marks, Open, step};
 use rules::{Half, Kind, Refusal, Settings};
 
 // An event of a kind that is going on, and the slot that waits for its words.
@@ -97,7 +97,7 @@ fn turn(recording: &Recording, half: Half, p: Pass, k: u64, out: &mut [u64]) -> 
     ensures out_after { out.new ≡ turned_out recording.now.settings recording.now.samples.now k p out.old }
 {
     let m = recording.thresholds;
-    let l = level_at(m.full, m.sag.from, half);
+    let l = m.level(half);
     let seen = p.known;
     let a = visit(recording, Kind::Sag, m.sag, seen, k, p.sag, l, p.n, out);
     let b = visit(

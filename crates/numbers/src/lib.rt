@@ -69,6 +69,16 @@ pub fn add_each(sum: &mut [u64], more: &[u64])
     }
 }
 
+// Two arrays added, number by number.
+pub fn added<const N: usize>(a: [u64; N], b: [u64; N]) -> [u64; N]
+    requires { (i : ℕ) → get_or a i 0 + get_or b i 0 < 2 ^ 64 }
+    ensures { result ≡ plus a.entry b.entry }
+{
+    let mut sum = a;
+    add_each(&mut sum, &b);
+    sum
+}
+
 // Two sums added, channel by channel.
 pub fn add_sums(x: Sums, y: Sums) -> Sums
     requires { (x.a + y.a < 2 ^ 64) × (x.b + y.b < 2 ^ 64) × (x.c + y.c < 2 ^ 64) }

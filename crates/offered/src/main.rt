@@ -4,7 +4,7 @@
 
 ghost use Rattle.std.specs.Prelude.{◌≤◌, length};
 
-use cases::{blocks, k9, settings, write_refusal};
+use cases::{dip, k9, settings, write_refusal};
 use print::Row;
 use rules::{Refusal, Table};
 use std::io;
@@ -46,47 +46,24 @@ fn write_table(rt: &impl Print, name: &str, t: Table) -> io::Result<()> {
     println!(rt; " shortfall {} by channel{}", t.shortfall, Row(&parts))
 }
 
-// The table that is offered the first `n` numbers of these blocks.
-fn offer_blocks(
-    rt: &impl Print,
-    name: &str,
-    t: Table,
-    values: [i32; 8],
-    n: usize,
-) -> io::Result<Table>
-    requires { n ≤ 96 }
-{
-    let run = blocks(values, values);
-    offer(rt, name, t, &run[..n])
-}
-
-fn offer_k9(rt: &impl Print, name: &str, t: Table) -> io::Result<Table> {
-    offer(rt, name, t, &k9())
-}
-
-// K12: 1000 1000 500 500 1000 1000 on channel a only.
-fn offer_k12(rt: &impl Print, name: &str, t: Table) -> io::Result<Table> {
-    let run = blocks([1000, 1000, 500, 500, 1000, 1000, 0, 0], [1000; 8]);
-    offer(rt, name, t, run.split_at(72).0)
-}
-
 // The table that is offered 1000 1000 v v 1000 1000.
 fn offer_dip(rt: &impl Print, name: &str, t: Table, v: i32) -> io::Result<Table> {
-    offer_blocks(rt, name, t, [1000, 1000, v, v, 1000, 1000, 0, 0], 72)
+    offer(rt, name, t, &dip(v, v))
 }
 
 // A fresh table of a set that is offered several recordings, refused ones among them.
 fn write_site(rt: &impl Print, set: u64) -> io::Result<()> {
+    let run = dip(1000, 1000);
     let fresh = site::fresh(settings(), set);
     let t0 = fresh.table;
     let t1 = offer_dip(rt, "site, K2:", t0, 500)?;
-    let t2 = offer_blocks(rt, "site, no samples:", t1, [1000; 8], 0)?;
-    let t3 = offer_k9(rt, "site, K9:", t2)?;
-    let t4 = offer_blocks(rt, "site, 71 numbers:", t3, [1000; 8], 71)?;
+    let t2 = offer(rt, "site, no samples:", t1, &[])?;
+    let t3 = offer(rt, "site, K9:", t2, &k9())?;
+    let t4 = offer(rt, "site, 71 numbers:", t3, run.split_at(71).0)?;
     let t5 = offer_dip(rt, "site, K6:", t4, 0)?;
     let t6 = offer_dip(rt, "site, K10:", t5, 1200)?;
     let t7 = offer_dip(rt, "site, K2 again:", t6, 500)?;
-    let t8 = offer_k12(rt, "site, K12:", t7)?;
+    let t8 = offer(rt, "site, K12:", t7, &dip(500, 1000))?;
     write_table(rt, "site:", t8)
 }
 

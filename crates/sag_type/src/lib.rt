@@ -3,13 +3,13 @@
 
 ghost use Rattle.std.specs.Prelude.{◌≡◌, true, ◌*◌, ◌≤◌, nat_abs, ◌-ℤ◌, length, Ok};
 ghost use Rattle.rules.specs.Halves.{square, known, half_at};
-ghost use Rattle.rules.specs.Events.{twice, six_parts, plus, six_sums, number_of_first, type_of};
+ghost use Rattle.rules.specs.Events.{twice, six_parts, six_sums, number_of_first, type_of};
 ghost use Rattle.rules.specs.Refusals.{recording_check};
 ghost use Rattle.halves.specs.Steps.{Low};
 ghost use Rattle.sag_type.specs.Six.{six_in, Sixes, ends_of};
 
 use halves::{Recording, square, window_at};
-use numbers::add_each;
+use numbers::added;
 
 // The smallest and the largest of six.
 #[derive(Clone, Copy)]
@@ -49,16 +49,6 @@ fn six_parts(a: i32, b: i32, c: i32) -> [u64; 6]
     ]
 }
 
-// Two sixes added, number by number.
-fn add_six(p: [u64; 6], q: [u64; 6]) -> [u64; 6]
-    requires { Sixes 100000000000000 p × Sixes 1000000000000 q }
-    ensures { result ≡ plus p q }
-{
-    let mut sum = p;
-    add_each(&mut sum, &q);
-    sum
-}
-
 // The six sums over a window that lacks no sample.
 fn six_of(w: &[i32]) -> [u64; 6]
     requires few { length w.now ≤ 1536 }
@@ -67,7 +57,7 @@ fn six_of(w: &[i32]) -> [u64; 6]
 {
     let mut six = [0; 6];
     for sample in w.chunks_exact(3) {
-        let next = add_six(six, six_parts(sample[0], sample[1], sample[2]));
+        let next = added(six, six_parts(sample[0], sample[1], sample[2]));
         six = next;
     }
     six

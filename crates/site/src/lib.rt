@@ -13,7 +13,7 @@ ghost use Rattle.site.specs.Merging.{Mergeable, merged, Adding, added_to};
 use borders::{check_set, known_set, not_scored};
 use checks::{check_settings, full_of, settings_good};
 use halves::Recording;
-use numbers::{add_each, add_sums, adds_up};
+use numbers::{add_sums, added, adds_up};
 use rules::{Refusal, Settings, Site, Table};
 use survey::{empty_table, table_of};
 
@@ -88,16 +88,6 @@ fn is_unsound(t: Table) -> bool
     miscounted(t)
 }
 
-// Cell by cell.
-fn add_cells(a: [u64; 40], b: [u64; 40]) -> [u64; 40]
-    requires { (i : ℕ) → get_or a i 0 + get_or b i 0 ≤ 4000000 }
-    ensures { result ≡ cells_from (λ i. get_or b i 0) a 0 }
-{
-    let mut sum = a;
-    add_each(&mut sum, &b);
-    sum
-}
-
 // Two tables' numbers added.
 fn merge(t: Table, u: Table) -> Table
     requires { Mergeable t u }
@@ -108,7 +98,7 @@ fn merge(t: Table, u: Table) -> Table
         healthy: t.healthy + u.healthy,
         disturbed: t.disturbed + u.disturbed,
         unknown: t.unknown + u.unknown,
-        cells: add_cells(t.cells, u.cells),
+        cells: added(t.cells, u.cells),
         unplaced: t.unplaced + u.unplaced,
         sags: t.sags + u.sags,
         interruptions: t.interruptions + u.interruptions,

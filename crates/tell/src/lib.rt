@@ -7,30 +7,15 @@ ghost use Rattle.rules.specs.Trace.{sums_told};
 ghost use Rattle.kinds.specs.Machine.{level_from, followed_by};
 ghost use Rattle.tell.specs.Telling.{class_by, kinds_by, five_of, told_by, Tellable};
 
-use kinds::{Inside, Thresholds, level_at};
+use kinds::{Class, Inside, Thresholds};
 use numbers::copy;
 use rules::{Half, Sums};
-
-// The classes of half-cycles, by their numbers.
-#[derive(Clone, Copy)]
-enum Class {
-    Healthy = 1,
-    Disturbed = 2,
-    Unknown = 3,
-}
 
 // The number of a half-cycle's class; `any` says whether it is in an event.
 fn class_number(known: bool, any: bool) -> u64
     ensures { result ≡ class_by known any }
 {
-    let class = if !known {
-        Class::Unknown
-    } else if any {
-        Class::Disturbed
-    } else {
-        Class::Healthy
-    };
-    class as u64
+    Class::of(known, any) as u64
 }
 
 // 1 for a sag plus 2 for an interruption plus 4 for a swell.
@@ -62,7 +47,7 @@ pub fn tell(m: Thresholds, half: Half, was: Inside, k: u64, out: &mut [u64]) -> 
     ensures value { result ≡ followed_by m was (level_from m.full m.sag.from half) }
     ensures out_after { out.new ≡ sets out.old (5 * k) (told_by m was half) }
 {
-    let l = level_at(m.full, m.sag.from, half);
+    let l = m.level(half);
     let is = was.next(m, l);
     put(
         out,

@@ -2,8 +2,7 @@
 // position where there is none. Channel 3, which no run has, is walked too.
 #![tactic(auto)]
 
-ghost use Rattle.std.specs.Prelude.{◌≡◌, length};
-
+use cases::dip;
 use std::io;
 use view::View;
 
@@ -26,20 +25,9 @@ fn write_run(rt: &impl Print, samples: &[i32]) -> io::Result<()> {
     write_from(rt, samples, 0, usize::MAX)
 }
 
-// N 8, so a block is four samples: six blocks of 1000 on each channel, but 500 in the third and the fourth on channel a.
-fn k12() -> [i32; 72]
-    ensures { 72 ≡ length result }
-{
-    let mut run = [1000; 72];
-    for m in 8..16 {
-        run[3 * m] = 500;
-    }
-    run
-}
-
 fn main(rt: HostRuntime) -> io::Result<()> {
     println!(&rt; "K12")?;
-    write_run(&rt, &k12())?;
+    write_run(&rt, &dip(500, 1000))?;
     // Eight samples: a and b have three, c two; a's second is missing, b's second and third are out of range.
     let ragged = [1, 2, 3, i32::MIN, 100_001, -5, 7, i32::MAX];
     println!(&rt; "ragged")?;

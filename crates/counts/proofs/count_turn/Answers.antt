@@ -4,4 +4,4 @@ use Rattle.counts.proofs.count_turn.Goals as goal
 
 pub returns : goal.returns
 unfolding tallied
-returns c = rw (c.rise.ensures.0, c.rise-2.ensures.0, c.rise-3.ensures.0, c.next-is.ensures, c.level_at.ensures)
+returns c = rw (c.rise.ensures.0, c.rise-2.ensures.0, c.rise-3.ensures.0, c.next-is.ensures, c.level.ensures)

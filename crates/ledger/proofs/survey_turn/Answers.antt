@@ -38,9 +38,9 @@ module _ (m : Thresholds) (v : Half) (p : Survey) (k : ℕ) (l : Option Level) (
 
 pub returns-clause-value : goal.returns-clause-value
 returns-clause-value c =
-    turned _ _ _ _ _ c.level_at-level.ensures _ c.follow-is.ensures _ c.ended.ensures _ _ _
+    turned _ _ _ _ _ c.level-level.ensures _ c.follow-is.ensures _ c.ended.ensures _ _ _
     (rw (c.is_open.ensures, c.is_some-known.ensures) at c.classify.ensures) c.count_starts.ensures (rw c.is_some-known.ensures at c.land.ensures.value)
 
 pub returns-clause-cells_after : goal.returns-clause-cells_after
 returns-clause-cells_after c =
-    turned-cells _ _ _ _ _ c.level_at-level.ensures _ c.follow-is.ensures _ c.ended.ensures _ _ _ _ (rw c.is_some-known.ensures at c.land.ensures.cells_after)
+    turned-cells _ _ _ _ _ c.level-level.ensures _ c.follow-is.ensures _ c.ended.ensures _ _ _ _ (rw c.is_some-known.ensures at c.land.ensures.cells_after)

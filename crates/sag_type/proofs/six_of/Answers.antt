@@ -40,12 +40,17 @@ parts_are c =
     let parts : c.six_parts.result ≡ six_parts (get_or n 0 (pos 0)) (get_or n 1 (pos 0)) (get_or n 2 (pos 0)) = search rules in
     rw (parts, read t 0 (omega arith), read t 1 (omega arith), read t 2 (omega arith))
 
-pub add_six-next-requires : goal.add_six-next-requires
-add_six-next-requires c =
-    let t = (goal.at.add_six-next-requires c).In-Some in (
-      (λ i. rw c.loop-sample.invariant.six_are (omega (arith, six_low c.args.w.now c.requires.low (at t) c.loop-sample.invariant.within i, more t, c.requires.few))),
-      (λ i. rw (parts_are c) (omega (arith, parts_low (x t 0) (x t 1) (x t 2) (is-low t 0 (omega arith)) (is-low t 1 (omega arith)) (is-low t 2 (omega arith)) i))),
-    )
+pub added-next-requires : goal.added-next-requires
+added-next-requires c = (omega arith, sums_fit)
+  where
+    sums_fit : (i : ℕ) → get_or c.loop-sample.six i 0 + get_or c.six_parts.result i 0 < 18446744073709551616
+    sums_fit i =
+        let t = (goal.at.added-next-requires c).In-Some in
+        let sums : get_or c.loop-sample.six i 0 ≤ 100000000000000 =
+        rw c.loop-sample.invariant.six_are (omega (arith, six_low c.args.w.now c.requires.low (at t) c.loop-sample.invariant.within i, more t, c.requires.few)) in
+        let parts : get_or c.six_parts.result i 0 ≤ 1000000000000 =
+        rw (parts_are c) (omega (arith, parts_low (x t 0) (x t 1) (x t 2) (is-low t 0 (omega arith)) (is-low t 1 (omega arith)) (is-low t 2 (omega arith)) i)) in
+        omega (arith, sums, parts)
 
 pub loop-sample-preserved : goal.loop-sample-preserved
 loop-sample-preserved c =
@@ -53,7 +58,7 @@ loop-sample-preserved c =
     let p = (goal.at.loop-sample-preserved c).After-six_parts in
     let on : length (c.loop-sample.yielded ++ c.in-Some.sample ∷ []) ≡ at t + 1 = length-append c.loop-sample.yielded (c.in-Some.sample ∷ []) in
     record {
-      six_are = rw on (c.add_six-next.ensures ∙ ap₂ plus c.loop-sample.invariant.six_are (parts_are p) ∙ ap (six_up_to c.args.w.now) (sym (add-one (at t))));
+      six_are = rw on (c.added-next.ensures ∙ ap₂ plus c.loop-sample.invariant.six_are (parts_are p) ∙ ap (six_up_to c.args.w.now) (sym (add-one (at t))));
       rest_is = rw on (rest_in c.args.w.now c.in-Some.sample.now (chunks_exact_rest c.next.new.self) (at t) (left t) (three t));
       in_threes = c.in-Some.ensures.steps.0 ∙ c.loop-sample.invariant.in_threes;
       within = rw on (more t);

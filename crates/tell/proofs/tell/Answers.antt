@@ -7,4 +7,4 @@ pub returns-clause-out_after : goal.returns-clause-out_after
 unfolding told_by
 returns-clause-out_after c =
     c.put.ensures
-    ∙ rw (c.class_number.ensures, c.is_some.ensures, c.kinds_number.ensures, c.sums_of.ensures, c.any.ensures, c.next-is.ensures, c.level_at-l.ensures)
+    ∙ rw (c.class_number.ensures, c.is_some.ensures, c.kinds_number.ensures, c.sums_of.ensures, c.any.ensures, c.next-is.ensures, c.level-l.ensures)
