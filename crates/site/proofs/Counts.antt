@@ -35,7 +35,6 @@ use Rattle.rules.specs.declared.Refusal.TheVariants.{Full, Unsound}
 use Rattle.rules.specs.declared.Site.{Site as Handed}
 use Rattle.checks.specs.Flags.{shape_check}
 use Rattle.checks.proofs.Reading.{check_parts}
-use Rattle.survey.specs.Pass.{tabled}
 use Rattle.site.specs.Merging.{Mergeable, merged, Adding, added_to}
 
 -- ---- three counts and a total
@@ -321,22 +320,11 @@ module _ (t : Table) (xs : List ℤ) (forty : length t.cells ≡ 40) where
         (λ l. sym (to_merged t u (grown t xs) l (sym merged-grown)) ∙ add-taken t xs sound ok u.total u_total l)
         (lower (4000000 - t.total) u.total)
 
-  -- ---- what the pass over the recording answers, and its table
+  -- ---- a table that is the recording's, added
 
-  module _ (sound : is_unsound t ≡ false) (r : Handed) (is : r ≡ tabled t.settings t.set xs) where
-    answer_is : r.answer ≡ recording_check t.settings xs
-    unfolding tabled
-    answer_is = rw is
+  module _ (sound : is_unsound t ≡ false) (v : Table) (ok : recording_check t.settings xs ≡ Ok tt) (is : v ≡ u) where
+    pub pass_adding : Adding t v
+    pass_adding = rw is (adding sound ok)
 
-    table_is : recording_check t.settings xs ≡ Ok tt → r.table ≡ u
-    unfolding tabled
-    table_is e = rw (is, e)
-
-    pub pass_adding : r.answer ≡ Ok tt → Adding t r.table
-    pass_adding e = let ok = sym answer_is ∙ e in rw (table_is ok) (adding sound ok)
-
-    pub pass-added : r.answer ≡ Ok tt → (v : Handed) → v ≡ added_to t r.table → v ≡ added t xs
-    pass-added e v f = let ok = sym answer_is ∙ e in f ∙ rw (table_is ok) (added_is sound ok)
-
-    pub pass-turned : (q : Refusal) → r.answer ≡ Err q → ◌≡◌ {A = Handed} (record { answer = Err q; table = t }) (added t xs)
-    pass-turned q e = add_turned t xs sound q (sym answer_is ∙ e)
+    pub pass-added : (w : Handed) → w ≡ added_to t v → w ≡ added t xs
+    pass-added w f = f ∙ rw is (added_is sound ok)

@@ -174,9 +174,8 @@ fn add_shaped(t: Table, recording: &Recording) -> Site
     requires { (is_unsound t ≡ false) × (recording.now.settings ≡ t.settings) }
     ensures { result ≡ added t recording.now.samples.now }
 {
-    let tabled = table_of(recording, t.set);
-    match tabled.answer {
-        Ok(()) => add_table(t, tabled.table),
+    match table_of(recording, t.set) {
+        Ok(u) => add_table(t, u),
         Err(refusal) => turned_away(t, refusal),
     }
 }

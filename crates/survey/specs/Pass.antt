@@ -1,14 +1,10 @@
 -- The pass over a recording that a site table takes, as the code runs it; proofs/ ties it to the rules.
-use Rattle.std.specs.Prelude.{ℕ, suc, ◌*◌, ◌≤◌, ◌≡◌, List, ℤ, Err}
+use Rattle.std.specs.Prelude.{ℕ, suc, ◌*◌, ◌≤◌, ◌≡◌, List}
 use Rattle.rules.specs.Halves.{begin, half_at, halves_of}
 use Rattle.rules.specs.Events.{three}
 use Rattle.rules.specs.Borders.{borders_of}
-use Rattle.rules.specs.Site.{empty, grown}
-use Rattle.rules.specs.Refusals.{recording_check, by_check}
 use Rattle.rules.specs.declared.Settings.{Settings}
-use Rattle.rules.specs.declared.Refusal.{Refusal}
 use Rattle.rules.specs.declared.Table.{Table}
-use Rattle.rules.specs.declared.Site.{Site as Handed}
 use Rattle.checks.specs.Flags.{RangedBelow, as_read}
 use Rattle.halves.specs.Steps.{step_at}
 use Rattle.halves.specs.declared.Recording.{Recording}
@@ -34,10 +30,6 @@ pub record Reached (r : Recording) (set : ℕ) (on : Surveyed) (cs : List ℕ) :
 
 -- ---- the whole recording
 
--- a refusal, beside an empty table
-abbrev pub turned_away : Settings → ℕ → Refusal → Handed
-turned_away s set r = record { answer = Err r; table = empty s set }
-
 -- the table of the numbers counted
 abbrev pub table_with : Settings → (set halves : ℕ) → Survey → Landed → List ℕ → Table
 table_with s set halves p d cs =
@@ -56,9 +48,3 @@ table_with s set halves p d cs =
       shortfall = three d.parts;
       parts = d.parts;
     }
-
--- what the checks of the recording answer, and its table where they accept it
-unfoldable pub tabled : Settings → ℕ → List ℤ → Handed
-tabled s set xs =
-    let check = recording_check s xs in
-    record { answer = check; table = by_check check (grown (empty s set) xs) (λ r. empty s set) }

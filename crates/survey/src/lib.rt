@@ -7,12 +7,12 @@ ghost use Rattle.rules.specs.Refusals.{recording_check};
 ghost use Rattle.rules.specs.Site.{empty, grown};
 ghost use Rattle.halves.specs.Steps.{step_at};
 ghost use Rattle.kinds.specs.Machine.{Light};
-ghost use Rattle.survey.specs.Pass.{Clear, Reached, turned_away, table_with, tabled};
+ghost use Rattle.survey.specs.Pass.{Clear, Reached, table_with};
 
 use halves::{Recording, joined};
 use ledger::{Landed, Survey, is_open, land, pass_over, start_survey, survey_turn};
 use quiet::calm_from;
-use rules::{Half, Refusal, Settings, Site, Sums, Table};
+use rules::{Half, Refusal, Settings, Sums, Table};
 
 // How far the pass has come: the survey before half-cycle k, and that one's first step, which is in range.
 #[derive(Clone, Copy)]
@@ -93,16 +93,6 @@ pub fn empty_table(s: Settings, set: u64) -> Table
     }
 }
 
-// A refusal, beside an empty table.
-fn turned_away(s: Settings, set: u64, refusal: Refusal) -> Site
-    ensures { result ≡ turned_away s set refusal }
-{
-    Site {
-        answer: Err(refusal),
-        table: empty_table(s, set),
-    }
-}
-
 // The table of the numbers counted.
 fn table_with(
     s: Settings,
@@ -135,7 +125,7 @@ fn table_with(
 
 // The table of a recording of good length by a set of borders, or refusal 6, which is told as soon as a bad sample is met.
 // Half-cycle H, which does not exist, ends a sag that is still going on.
-fn survey_all(recording: &Recording, set: u64) -> Result<Table, Refusal>
+pub fn table_of(recording: &Recording, set: u64) -> Result<Table, Refusal>
     requires { known_set set ≡ true }
     ensures { MatchResult result (λ t. (recording_check recording.now.settings recording.now.samples.now ≡ Ok tt) × (t ≡ grown (empty recording.now.settings set) recording.now.samples.now)) (λ q. recording_check recording.now.settings recording.now.samples.now ≡ Err q) }
 {
@@ -156,18 +146,4 @@ fn survey_all(recording: &Recording, set: u64) -> Result<Table, Refusal>
         &mut cells,
     );
     Ok(table_with(recording.settings, set, halves, p, landed, cells))
-}
-
-// The table of one recording of good length by a set of borders, or refusal 6 beside an empty table.
-pub fn table_of(recording: &Recording, set: u64) -> Site
-    requires { known_set set ≡ true }
-    ensures { result ≡ tabled recording.now.settings set recording.now.samples.now }
-{
-    match survey_all(recording, set) {
-        Ok(table) => Site {
-            answer: Ok(()),
-            table,
-        },
-        Err(refusal) => turned_away(recording.settings, set, refusal),
-    }
 }

@@ -2,7 +2,7 @@
 use mathlib.Core.Path.{◌≡◌, ◌∙◌}
 use lib.ListN.{length}
 use Rattle.rules.proofs.Soundness.{sound-parts}
-use Rattle.site.proofs.Counts.{pass_adding, pass-added, pass-turned}
+use Rattle.site.proofs.Counts.{pass_adding, pass-added, add_turned}
 use Rattle.site.proofs.add_shaped.Goals.{Start}
 use borrow.Author.Rules.{rules}
 use Rattle.site.proofs.add_shaped.Goals as goal
@@ -10,18 +10,20 @@ use Rattle.site.proofs.add_shaped.Goals as goal
 forty-cells : (c : Start) → length c.args.t.cells ≡ 40
 forty-cells c = search rules
 
-pub table_of-tabled-requires : goal.table_of-tabled-requires
-table_of-tabled-requires c = (sound-parts _ c.requires.0).set_known
+pub table_of-requires : goal.table_of-requires
+table_of-requires c = (sound-parts _ c.requires.0).set_known
 
 pub add_table-requires : goal.add_table-requires
 add_table-requires c =
-    pass_adding _ _ (forty-cells (goal.at.add_table-requires c).Start) c.requires.0 _ (rw c.requires.1 at c.table_of-tabled.ensures) c.in-Ok.is
+    let e = rw c.requires.1 at c.in-Ok.ensures in
+    pass_adding _ _ (forty-cells (goal.at.add_table-requires c).Start) c.requires.0 _ e.0 e.1
 
 pub returns-in-Ok : goal.returns-in-Ok
 returns-in-Ok c =
-    pass-added _ _ (forty-cells (goal.at.returns-in-Ok c).Start) c.requires.0 _ (rw c.requires.1 at c.table_of-tabled.ensures) c.in-Ok.is _ c.add_table.ensures
+    let e = rw c.requires.1 at c.in-Ok.ensures in
+    pass-added _ _ (forty-cells (goal.at.returns-in-Ok c).Start) c.requires.0 _ e.0 e.1 _ c.add_table.ensures
 
 pub returns-in-Err : goal.returns-in-Err
 returns-in-Err c =
     c.turned_away.ensures
-    ∙ pass-turned _ _ (forty-cells (goal.at.returns-in-Err c).Start) c.requires.0 _ (rw c.requires.1 at c.table_of-tabled.ensures) _ c.in-Err.is
+    ∙ add_turned _ _ c.requires.0 _ (rw c.requires.1 at c.in-Err.ensures)
