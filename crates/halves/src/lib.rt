@@ -11,9 +11,7 @@ ghost use Rattle.checks.specs.Flags.{all_in_range, RangedBelow, shape_check};
 ghost use Rattle.kinds.specs.Machine.{thresholds_of};
 ghost use Rattle.halves.specs.Steps.{part, window, step_run, step_in, step_at, joined_of, Addable};
 
-use checks::{
-    all_in_range, check_settings, check_shape, count_halves, first_bad, is_too_high, is_too_low,
-};
+use checks::{all_in_range, check, check_shape, count_halves, first_bad, is_too_high, is_too_low};
 use kinds::{Thresholds, thresholds_of};
 use numbers::add_sums;
 use rules::{Half, Refusal, Settings, Sums};
@@ -93,8 +91,8 @@ impl<'a> Recording<'a> {
     pub fn new(settings: Settings, samples: &'a [i32]) -> Result<Recording<'a>, Refusal>
         ensures { MatchResult result (λ r. (r.settings ≡ settings) × (r.samples.now ≡ samples.now) × (and_then (settings_check settings) (shape_check settings samples.now) ≡ Ok tt)) (λ q. and_then (settings_check settings) (shape_check settings samples.now) ≡ Err q) }
     {
-        check_settings(settings)?;
-        Recording::with_good_settings(settings, samples)
+        check(settings, samples)?;
+        Ok(Recording::accepted(settings, samples))
     }
 
     // Refusals 2 to 5, where the settings are known to be good.
@@ -106,12 +104,20 @@ impl<'a> Recording<'a> {
         ensures { MatchResult result (λ r. (r.settings ≡ settings) × (r.samples.now ≡ samples.now) × (shape_check settings samples.now ≡ Ok tt)) (λ q. shape_check settings samples.now ≡ Err q) }
     {
         check_shape(settings, samples)?;
-        Ok(Recording {
+        Ok(Recording::accepted(settings, samples))
+    }
+
+    // The recording of settings and a length that are not refused.
+    fn accepted(settings: Settings, samples: &'a [i32]) -> Recording<'a>
+        requires { (settings_good settings ≡ true) × (shape_check settings samples.now ≡ Ok tt) }
+        ensures { (result.settings ≡ settings) × (result.samples.now ≡ samples.now) }
+    {
+        Recording {
             settings,
             samples,
             halves: count_halves(settings, samples),
             thresholds: thresholds_of(settings),
-        })
+        }
     }
 
     // The samples of step j: N/2 of each channel from sample j x N/2.
