@@ -1,6 +1,6 @@
 -- Counting on: after the quiet half-cycles and one by the machine the tally is that of the rules, the samples so far are in range or one is
 -- bad, and nothing goes on at what was passed over. Assumes nothing.
-use Rattle.std.specs.Prelude.{Result, ⊤, Ok, Err, Some, None}
+use Rattle.std.specs.Prelude.{Ok, Err, Some, None}
 use Prim.Native.Nat.{ℕ, suc, ◌+◌, ◌*◌, ◌/◌, ◌≤◌, ◌<◌}
 use mathlib.Core.Path.{◌≡◌, sym, ap, ◌∙◌}
 use mathlib.Core.Bool.{Bool, true, false, cond}
@@ -15,10 +15,11 @@ use Rattle.std.proofs.lemmas.Option.{none-some, same_Some}
 use Rattle.rules.specs.Halves.{Half, begin, half_at, halves_of}
 use Rattle.rules.specs.EventList.{events_of}
 use Rattle.rules.specs.Refusals.{recording_check, by_check}
-use Rattle.rules.specs.declared.Refusal.{Refusal}
 use Rattle.rules.specs.declared.Settings.{Settings}
 use Rattle.rules.specs.Demands.{Good}
+use Rattle.rules.proofs.Booleans.{not_both}
 use Rattle.rules.proofs.Ranges.{good}
+use Rattle.rules.proofs.Samples.{accepted_recording}
 use Rattle.checks.specs.Flags.{all_in_range, RangedBelow, as_read}
 use Rattle.checks.proofs.Reading.{by_range, range_good, ranged_all, read_halves, read_itself}
 use Rattle.halves.specs.Steps.{step_at, joined_of, Addable}
@@ -33,9 +34,10 @@ use Rattle.counts.specs.Counting.{tallied, tally_of, going_on, Counting, Counted
 use Rattle.counts.proofs.Tallies.{tally-next, tally-few, tally_stays, tally-all, none_open}
 use Rattle.counts.proofs.Notes.{NotedBelow}
 
--- a recording that is refused is not accepted
-pub never_taken : (x : Result ⊤ Refusal) (q : Refusal) → x ≡ Err q → x ≡ Ok tt → ⊥
-never_taken x q e f = let z : ◌≡◌ {A = ℕ} 0 1 = cc in absurd (omega arith)
+-- a recording that has a bad sample is not accepted
+pub never_taken : (r : Recording) → all_in_range r.samples.now ≡ false → recording_check r.settings r.samples.now ≡ Ok tt → ⊥
+never_taken r bad e =
+    let xs = r.samples.now in not_both (all_in_range xs) (ranged_all xs (length xs) (omega arith) (accepted_recording r.settings xs e).every_in_range) bad
 
 module _ {r : Recording} {t : Tally} {first : Half} {from : ℕ} (v : Counting r t first from)
     (stop : ℕ) (is : stop ≡ cond (going_on t) from (quiet_till r.settings r.samples.now from r.halves)) where
@@ -69,7 +71,7 @@ module _ {r : Recording} {t : Tally} {first : Half} {from : ℕ} (v : Counting r
   pub next_ranged : RangedBelow xs (3 * begin s (stop + 1))
   next_ranged = rw add-one ranged
 
-  tally-at : t ≡ tally_of s h stop
+  pub tally-at : t ≡ tally_of s h stop
   tally-at = v.tally ∙ sym (tally_stays s h from stop low rests)
 
   -- all is passed over
@@ -127,7 +129,7 @@ module _ (r : Recording) (k : ℕ) (done : k ≡ r.halves) (below : RangedBelow 
   all-good : all_in_range r.samples.now ≡ true
   all-good = ranged_all r.samples.now (3 * begin r.settings (suc k)) (rw (done, r.counted) (steps_all r.settings r.samples.now (good r.settings r.good) r.shaped)) below
 
-  taken : recording_check r.settings r.samples.now ≡ Ok tt
+  pub taken : recording_check r.settings r.samples.now ≡ Ok tt
   taken = by_range r.settings r.samples.now r.shaped ∙ range_good r.samples.now all-good
 
   pub told-count : (t : Tally) → t ≡ tally_of r.settings (half_at r.settings (as_read r.samples.now)) k → Ok t.n ≡ by_check (recording_check r.settings r.samples.now) (Ok (length (events_of r.settings r.samples.now))) (λ r. Err r)

@@ -35,7 +35,7 @@ use Rattle.ledger.specs.Entries.{tracked_by, going_on, classed_by, started_by, e
 use Rattle.ledger.specs.State.{track_at, classes_at, starts_at, landed, landed_at, cells_at, survey_at}
 use Rattle.kinds.proofs.Machine.{level_is, level-known, inside_is, opens-closed}
 use Rattle.kinds.proofs.Limits.{marked, few-half, opens-light, level-light, finishable}
-use Rattle.ledger.proofs.Surveys.{ended_one, track_next, classes-next, starts-next, ended_at, landing, landed_at-next}
+use Rattle.ledger.proofs.Surveys.{ended_one, track_next, classes-next, starts-next, ended_at, lands, ended_lands, landing, landed_at-next}
 use Rattle.ledger.proofs.Gains.{cells-next, unplaced-few, cells-few, parts-light, last-light, unplaced-all, parts_all, shortfall-all, cells-all}
 
 module _ (s : Settings) (xs : List ℤ) (good-settings : settings_good s ≡ true) (accepted : recording_check s xs ≡ Ok tt) where
@@ -68,10 +68,11 @@ module _ (s : Settings) (xs : List ℤ) (good-settings : settings_good s ≡ tru
   starts-few k l =
       (omega (arith, ok.few, count_le (starts s h Sag) k), omega (arith, ok.few, count_le (starts s h Interruption) k), omega (arith, ok.few, count_le (starts s h Swell) k))
 
-  -- a half-cycle that ends a sag says the same by the track
-  pub ends_is : (k : ℕ) → ended_by (track_at s h k).sag (track_at s h (suc k)).sag ≡ ended_at s h Sag k
+  -- the sag that the code ends is the machine's, and there is one exactly where the rules say that a sag lands
+  pub ends_is : (k : ℕ) → (ended_by (track_at s h k).sag (track_at s h (suc k)).sag ≡ ended_at s h Sag k)
+      × (is_some (ended_by (track_at s h k).sag (track_at s h (suc k)).sag) ≡ lands s h Sag k)
   unfolding track_at
-  ends_is k = refl
+  ends_is k = (refl, ended_lands s h Sag k)
 
   pub landable : (set : ℕ) → known_set set ≡ true → (k : ℕ) → k ≤ n
       → IfSome (ended_at s h Sag k) (λ o. Landable s set (landed_at s h n k) o k (cells_at s (borders_of s set) h n k))
@@ -126,9 +127,11 @@ module _ (s : Settings) (xs : List ℤ) (good-settings : settings_good s ≡ tru
   -- ---- the end
 
   -- half-cycle H does not exist, and ends a sag that is still going on
-  pub last-ends : (track_at s h n).sag ≡ ended_at s h Sag n
+  pub last-ends : ((track_at s h n).sag ≡ ended_at s h Sag n) × (is_some (track_at s h n).sag ≡ lands s h Sag n)
   unfolding track_at
-  last-ends = rw (opens-closed s h Sag n (in_past s h n (half_past s xs) Sag n (omega arith)))
+  last-ends =
+      let ends : (track_at s h n).sag ≡ ended_at s h Sag n = rw (opens-closed s h Sag n (in_past s h n (half_past s xs) Sag n (omega arith))) in
+      (ends, ap is_some ends ∙ ended_lands s h Sag n)
 
   pub at_start : start_survey ≡ survey_at s h n 0
   unfolding survey_at track_at classes_at starts_at landed_at opens landed
@@ -183,7 +186,7 @@ module _ (s : Settings) (xs : List ℤ) (good-settings : settings_good s ≡ tru
     any_is = rw (next, inside_is s (half_at s xs) Sag (suc k))
 
     ends : ended_by p.track.sag is.sag ≡ ended_at s (half_at s xs) Sag k
-    ends = rw (are.track, next) (ends_is s xs good-settings accepted k)
+    ends = rw (are.track, next) (ends_is s xs good-settings accepted k).0
 
     ask_land : IfSome (ended_by p.track.sag is.sag) (λ o. Landable s set p.landed o k cs)
     ask_land = rw (ends, are.landed, cells_are) (landable s xs good-settings accepted set set_known k inside)
@@ -243,7 +246,7 @@ module _ (s : Settings) (xs : List ℤ) (good-settings : settings_good s ≡ tru
   are_last = parts s xs good-settings accepted (halves_of s xs) p last
 
   ends_last : p.track.sag ≡ ended_at s (half_at s xs) Sag (halves_of s xs)
-  ends_last = rw are_last.track (last-ends s xs good-settings accepted)
+  ends_last = rw are_last.track (last-ends s xs good-settings accepted).0
 
   not_known : false ≡ known (half_at s xs (halves_of s xs))
   not_known = sym (rw (half_past s xs (halves_of s xs) (omega arith)))

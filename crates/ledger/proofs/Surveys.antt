@@ -44,6 +44,13 @@ ends_as g None (Some p) = refl
 ends_as g (Some o) None = refl
 ends_as g (Some o) (Some p) = refl
 
+-- one is ended where one went on and none does after
+is_ended : (was is : Option Open) → is_some (ended_by was is) ≡ is_some was && not (is_some is)
+is_ended None None = refl
+is_ended None (Some p) = refl
+is_ended (Some o) None = refl
+is_ended (Some o) (Some p) = refl
+
 -- the one that is ended went on, and none goes on after
 pub ended_one : (was is : Option Open) (o : Open) → ended_by was is ≡ Some o → (was ≡ Some o) × (is ≡ None)
 ended_one was None o e = (e, refl)
@@ -128,6 +135,21 @@ module _ (s : Settings) (h : ℕ → Half) where
   -- the event of the kind that half-cycle k ends
   abbrev pub ended_at : Kind → ℕ → Option Open
   ended_at kind k = ended_by (opens s h kind k) (opens s h kind (suc k))
+
+  -- by the rules an event of the kind lands at half-cycle k
+  abbrev pub lands : Kind → ℕ → Bool
+  lands kind k = before (in_event s h kind) k && not (in_event s h kind k)
+
+  -- the machine ends one exactly where the rules say that one lands
+  pub ended_lands : (kind : Kind) (k : ℕ) → is_some (ended_at kind k) ≡ lands kind k
+  ended_lands kind k = is_ended (opens s h kind k) (opens s h kind (suc k)) ∙ rw (inside_is s h kind k, inside_is s h kind (suc k))
+
+  pub lands_one : (kind : Kind) (k : ℕ) → lands kind k ≡ true → (o : Open) × (ended_at kind k ≡ Some o)
+  lands_one kind k e = by (ended_at kind k) refl (ended_lands kind k ∙ e)
+    where
+      by : (x : Option Open) → ended_at kind k ≡ x → is_some x ≡ true → (o : Open) × (ended_at kind k ≡ Some o)
+      by None f y = absurd (false≢true y)
+      by (Some o) f y = (o, f)
 
   pub landed_step : (kind : Kind) (g : ℕ → ℕ) (k : ℕ) → landed s h kind g (suc k) ≡ landed s h kind g k + at_end g (ended_at kind k)
   unfolding landed

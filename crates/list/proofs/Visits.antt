@@ -70,7 +70,7 @@ module _ {r : Recording} {kind : Kind} {m : Marks} {seen : Bool} {k : ℕ} {q : 
     step-ready = (rw was_opens (opens-light s xs g ok kind k k_high), rw v.levels (level-light s xs g ok k))
 
     module _ {is : Option Open} (stepped : is ≡ step_by kind m seen k o l) where
-      is_next : is ≡ opens s h kind (suc k)
+      pub is_next : is ≡ opens s h kind (suc k)
       unfolding opens
       is_next = stepped ∙ rw (v.marks, v.known-before, was_opens, v.levels)
 

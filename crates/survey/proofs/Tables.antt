@@ -1,26 +1,24 @@
 -- The whole recording: what the survey has reached before half-cycle k, and what its end and a bad sample make of it.
 -- Where the end is reached every sample is in range, so the recording as it is read is the recording. Assumes nothing.
-use Rattle.std.specs.Prelude.{Ok, Err, IfSome}
+use Rattle.std.specs.Prelude.{Ok, IfSome}
 use Prim.Native.Nat.{ℕ, suc, ◌*◌, ◌≤◌}
 use mathlib.Core.Path.{◌≡◌, sym, ◌∙◌}
 use mathlib.Core.Bool.{true, false}
 use mathlib.Core.List.{List}
 use native.Mathlib.Omega.{arith}
 use lib.ListN.{length, replicate}
-use Rattle.rules.specs.Recorder.{first_bad}
 use Rattle.rules.specs.Halves.{Half, begin, halves_of}
 use Rattle.rules.specs.Borders.{known_set, borders_of}
 use Rattle.rules.specs.Refusals.{recording_check}
 use Rattle.rules.specs.Site.{cells, empty, grown}
-use Rattle.rules.specs.declared.Refusal.{Refusal}
-use Rattle.rules.specs.declared.Refusal.TheVariants.{Sample}
 use Rattle.rules.specs.declared.Table.{Table}
 use Rattle.rules.proofs.Ranges.{good}
 use Rattle.checks.specs.Flags.{all_in_range, as_read}
-use Rattle.checks.proofs.Reading.{by_range, range_good, range_bad, ranged_all, read_itself, read_halves, read_taken}
-use Rattle.halves.specs.Steps.{step_at, step_run}
+use Rattle.checks.proofs.Reading.{by_range, range_good, ranged_all, read_itself, read_halves, read_taken}
+use Rattle.halves.specs.Steps.{step_at}
 use Rattle.halves.specs.declared.Recording.{Recording}
-use Rattle.halves.proofs.Steps.{step_fits, steps_all, ranged_next, step-bad}
+use Rattle.halves.proofs.Looked.{begins_within}
+use Rattle.halves.proofs.Steps.{steps_all}
 use Rattle.kinds.specs.Machine.{Light}
 use Rattle.ledger.specs.declared.Landed.{Landed}
 use Rattle.ledger.specs.declared.Survey.{Survey}
@@ -32,23 +30,9 @@ use Rattle.survey.specs.Pass.{Clear, Reached, table_with}
 module _ (r : Recording) where
   -- ---- a step looked at
 
-  module _ {k : ℕ} (high : k ≤ r.halves) (clear : Clear r k) where
-    within : k ≤ halves_of r.settings r.samples.now
-    within = omega (arith, r.counted)
-
-    -- where it is looked for
-    pub ask_bad : (3 * begin r.settings k ≤ length r.samples.now) × Clear r k
-    ask_bad = (omega (arith, step_fits r.settings r.samples.now (good _ r.good) r.shaped k within), clear)
-
-    pub clear_next : all_in_range (step_run r.settings r.samples.now k) ≡ true → Clear r (suc k)
-    clear_next e = ranged_next r.settings r.samples.now (good _ r.good) r.shaped k within clear e
-
-    pub bad_here : all_in_range (step_run r.settings r.samples.now k) ≡ false → (q : Refusal) → q ≡ Sample (first_bad r.samples.now)
-        → recording_check r.settings r.samples.now ≡ Err q
-    bad_here e q f =
-        by_range r.settings r.samples.now r.shaped
-        ∙ range_bad r.samples.now (step-bad r.settings r.samples.now (good _ r.good) r.shaped k within e)
-        ∙ rw f
+  -- where a bad sample is looked for; what comes of the look is a law of halves
+  pub ask_bad : {k : ℕ} → k ≤ r.halves → Clear r k → (3 * begin r.settings k ≤ length r.samples.now) × Clear r k
+  ask_bad high clear = (begins_within r high clear, clear)
 
   -- ---- the start
 
