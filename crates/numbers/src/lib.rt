@@ -56,7 +56,9 @@ pub fn copy(from: &[u64], out: &mut [u64], at: usize)
     requires { at + length from.now ≤ length out.old }
     ensures { out.new ≡ paste out.old at from.now (length from.now) }
 {
-    out[at..at + from.len()].copy_from_slice(from);
+    for (i, x) in from.iter().enumerate() {
+        out[at + i] = *x;
+    }
 }
 
 // `more` added to `sum`, number by number.
