@@ -1,27 +1,44 @@
--- The two sets, each in turn; and a place among borders by the library's word. Assumes nothing.
-use Rattle.std.proofs.Common.{◌≡◌, ℕ, zero, suc, ◌+◌, ◌*◌, ◌<◌, ◌⊎◌, inl, inr, Bool, true, false, not, List, [], ◌∷◌, refl, ◌∙◌, arith, one-add}
+-- The code's sets are the rules'; and a place among borders by the library's word. Assumes nothing.
+use Rattle.std.proofs.Common.{◌≡◌, ℕ, ◌+◌, ◌*◌, ◌<◌, Bool, true, false, not, List, [], ◌∷◌, length, map, slice_index_or, refl, sym, ap, ◌∙◌, one-add}
+use Rattle.std.proofs.lemmas.List.{length-map}
 use Rattle.std.specs.List.{prefix_len}
 use borrow.Author.Tests.{ltb-true, leb-true, leb-false, lt-ltb, le-ltb}
 use lib.Dec.{leb, ltb}
+use lib.ListN.{get_or, get_or-map}
 use Rattle.rules.specs.declared.Settings.{Settings}
 use Rattle.rules.specs.Halves.{full, at_most}
-use Rattle.rules.specs.Borders.{Borders, known_set, place_of, row_of, column_of}
+use Rattle.rules.specs.Borders as rules
+use Rattle.rules.specs.Borders.{sets, known_set, borders_of, place_of, row_of, column_of}
 use Rattle.borders.specs.declared.Border.{Border}
-use Rattle.borders.specs.Lists.{at_frequency}
+use Rattle.borders.specs.declared.Borders.{Borders}
+use Rattle.borders.specs.Lists.{at_frequency, lists_at}
 
--- ---- a known set is one of the two
+-- ---- a known set is one of the list
 
-pub known-low : (set : ℕ) → known_set set ≡ true → set < 2
+pub known-low : (set : ℕ) → known_set set ≡ true → set < length sets
 unfolding known_set
-known-low set k = ltb-true set 2 k
+known-low set k = ltb-true set (length sets) k
 
-pub one_of_two : (set : ℕ) → known_set set ≡ true → (set ≡ 0) ⊎ (set ≡ 1)
-one_of_two set k = by_number set (known-low set k)
-  where
-    by_number : (set : ℕ) → set < 2 → (set ≡ 0) ⊎ (set ≡ 1)
-    by_number zero l = inl refl
-    by_number (suc zero) l = inr refl
-    by_number (suc (suc set)) l = absurd (omega arith)
+-- ---- the code's sets, told of all of them at once, so that a further one asks for no proof
+
+abbrev no_borders : Borders
+no_borders = record { rows = record { ref_ptr = (0, 0); now = [] }; columns = record { ref_ptr = (0, 0); now = [] } }
+
+module _ (bs : List Borders) (same : (f : ℕ) → map (lists_at f) bs ≡ map (λ b. b f) sets) where
+  -- there are as many as the rules have
+  pub as_many : length bs ≡ length sets
+  as_many = sym (length-map bs (lists_at 0)) ∙ ap length (same 0) ∙ length-map sets (λ b. b 0)
+
+  pub in_list : (set : ℕ) → known_set set ≡ true → set < length bs
+  in_list set k = rw as_many (known-low set k)
+
+  -- and each is the rules' of that number
+  pub set_is : (s : Settings) (set : ℕ) → lists_at s.f (slice_index_or bs set no_borders) ≡ borders_of s set
+  unfolding borders_of
+  set_is s set =
+      sym (get_or-map (lists_at s.f) bs set no_borders)
+      ∙ ap (λ l. get_or l set (lists_at s.f no_borders)) (same s.f)
+      ∙ get_or-map (λ b. b s.f) sets set (λ f. record { rows = []; columns = [] })
 
 -- ---- the rules' row and column, by the library's word for a place
 
@@ -37,7 +54,7 @@ row_place : (s : Settings) (S : ℕ) (bs : List ℕ) → prefix_len (λ p. ltb (
 row_place s S [] = refl
 row_place s S (b ∷ bs) = rw (above_is (b * b * full s) (10000 * S), row_place s S bs, one-add)
 
-pub row_is : (s : Settings) (b : Borders) (S : ℕ) → prefix_len (λ p. ltb (p * p * full s) (10000 * S)) b.rows ≡ row_of s b S
+pub row_is : (s : Settings) (b : rules.Borders) (S : ℕ) → prefix_len (λ p. ltb (p * p * full s) (10000 * S)) b.rows ≡ row_of s b S
 unfolding row_of
 row_is s b S = row_place s S b.rows
 
@@ -45,7 +62,7 @@ column_place : (f x : ℕ) (bs : List Border) → prefix_len (λ b. leb (b.fifth
 column_place f x [] = refl
 column_place f x (b ∷ bs) = rw (column_place f x bs, one-add)
 
-pub column_is : (f : ℕ) (bs : List Border) (b : Borders) → at_frequency f bs ≡ b.columns → (h : ℕ)
+pub column_is : (f : ℕ) (bs : List Border) (b : rules.Borders) → at_frequency f bs ≡ b.columns → (h : ℕ)
     → prefix_len (λ b. leb (b.fifths + b.times * f) (5 * h)) bs ≡ column_of b h
 unfolding column_of
 column_is f bs b e h = column_place f (5 * h) bs ∙ rw e

@@ -1,13 +1,13 @@
 // The borders of cells: which sets of them there are, and the cell of an extreme and a duration by a set.
 #![tactic(auto)]
 
-ghost use Rattle.std.specs.Prelude.{◌≡◌, true, suc, ◌+◌, ◌*◌, ◌≤◌, leb, ltb, length};
+ghost use Rattle.std.specs.Prelude.{◌≡◌, ℕ, true, suc, ◌+◌, ◌*◌, ◌≤◌, leb, ltb, length, map};
 ghost use Rattle.std.specs.List.{All, prefix_len};
 ghost use Rattle.rules.specs.Recorder.{settings_good};
-ghost use Rattle.rules.specs.Borders.{known_set, borders_of, cell_at};
+ghost use Rattle.rules.specs.Borders.{sets, known_set, borders_of, cell_at};
 ghost use Rattle.rules.specs.Site.{not_scored};
 ghost use Rattle.rules.specs.Refusals.{set_check};
-ghost use Rattle.borders.specs.Lists.{at_frequency};
+ghost use Rattle.borders.specs.Lists.{at_frequency, lists_at};
 
 use checks::full_of;
 use rules::{Refusal, Settings};
@@ -87,11 +87,21 @@ const IEC_61000_4_11: Borders = Borders {
 // The sets, each at its number.
 static SETS: [Borders; 2] = [UNIPEDE, IEC_61000_4_11];
 
+// All of them: at any frequency they are the rules' sets. That is said of the whole list, and not of one set after another.
+fn sets() -> &'static [Borders]
+    ensures lists { (f : ℕ) → map (lists_at f) result.now ≡ map (λ b. b f) sets }
+    ensures percents { All (λ b. All (λ p. p ≤ 100) b.rows.now) result.now }
+    ensures low { All (λ b. All (λ c. (c.fifths ≤ 1000) × (c.times ≤ 1000)) b.columns.now) result.now }
+    ensures few { All (λ b. (length b.rows.now ≤ 40) × (length b.columns.now ≤ 40)) result.now }
+{
+    &SETS
+}
+
 // Whether there is such a set.
 pub fn known_set(set: u64) -> bool
     ensures { result ≡ known_set set }
 {
-    set < SETS.len() as u64
+    set < sets().len() as u64
 }
 
 // Refusal 1 of a set that there is not: it is the eighth, after the seven settings.
@@ -122,7 +132,7 @@ fn borders_of(set: u64) -> Borders
     ensures low { All (λ b. (b.fifths ≤ 1000) × (b.times ≤ 1000)) result.columns.now }
     ensures few { (length result.rows.now ≤ 40) × (length result.columns.now ≤ 40) }
 {
-    SETS[set as usize]
+    sets()[set as usize]
 }
 
 // The row of x, m being N x R x R: on a border it is not above it.

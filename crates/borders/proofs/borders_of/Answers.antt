@@ -1,20 +1,16 @@
--- `borders::borders_of` meets its contract: each of the two sets has the rules' lists, whatever the frequency.
-use Rattle.std.proofs.Common.{arith, refl}
-use mathlib.Core.Logic.{⊎_elim}
-use Rattle.rules.specs.Borders.{borders_of}
-use Rattle.borders.proofs.Laws.{known-low, one_of_two}
+-- `borders::borders_of` meets its contract: the code's set of a number is the rules', whatever the frequency and however many there are.
+use Rattle.std.proofs.Common.{ap, arith}
+use Rattle.borders.proofs.Laws.{in_list, set_is}
 use Rattle.borders.proofs.borders_of.Goals as goal
 
-pub offset_bounds-set : goal.offset_bounds-set
-offset_bounds-set c = omega (arith, known-low _ c.requires)
+pub offset_bounds-sets-set : goal.offset_bounds-sets-set
+offset_bounds-sets-set c = omega (arith, c.sets.type_inv.1, in_list _ c.sets.ensures.lists _ c.requires)
 
-pub bounds-set : goal.bounds-set
-bounds-set c = known-low _ c.requires
+pub bounds-sets-set : goal.bounds-sets-set
+bounds-sets-set c = in_list _ c.sets.ensures.lists _ c.requires
 
 pub returns-clause-rows : goal.returns-clause-rows
-unfolding borders_of
-returns-clause-rows c = λ s. ⊎_elim (λ e. rw e refl) (λ e. rw e refl) (one_of_two c.args.set c.requires)
+returns-clause-rows c = λ s. ap (λ b. b.rows) (set_is _ c.sets.ensures.lists s c.args.set)
 
 pub returns-clause-columns : goal.returns-clause-columns
-unfolding borders_of
-returns-clause-columns c = λ s. ⊎_elim (λ e. rw e (grind arith)) (λ e. rw e (grind arith)) (one_of_two c.args.set c.requires)
+returns-clause-columns c = λ s. ap (λ b. b.columns) (set_is _ c.sets.ensures.lists s c.args.set)
