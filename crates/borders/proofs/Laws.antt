@@ -1,7 +1,7 @@
 -- The code's sets are the rules'; and a place among borders by the library's word. Assumes nothing.
-use Rattle.std.proofs.Common.{◌≡◌, ℕ, ◌+◌, ◌*◌, ◌<◌, Bool, true, false, not, List, [], ◌∷◌, length, map, slice_index_or, refl, sym, ap, ◌∙◌, one-add}
+use Rattle.std.proofs.Common.{◌≡◌, ℕ, zero, suc, ◌+◌, ◌*◌, ◌≤◌, ◌<◌, ◌&&◌, Bool, true, false, not, List, [], ◌∷◌, length, map, slice_index_or, refl, sym, ap, ◌∙◌, arith, one-add}
 use Rattle.std.proofs.lemmas.List.{length-map}
-use Rattle.std.specs.List.{prefix_len}
+use Rattle.std.specs.List.{All, list_all, prefix_len}
 use borrow.Author.Tests.{ltb-true, leb-true, leb-false, lt-ltb, le-ltb}
 use lib.Dec.{leb, ltb}
 use lib.ListN.{get_or, get_or-map}
@@ -9,9 +9,27 @@ use Rattle.rules.specs.declared.Settings.{Settings}
 use Rattle.rules.specs.Halves.{full, at_most}
 use Rattle.rules.specs.Borders as rules
 use Rattle.rules.specs.Borders.{sets, known_set, borders_of, place_of, row_of, column_of}
+use Rattle.rules.proofs.Booleans.{both}
 use Rattle.borders.specs.declared.Border.{Border}
 use Rattle.borders.specs.declared.Borders.{Borders}
 use Rattle.borders.specs.Lists.{at_frequency, lists_at}
+
+-- ---- what is computed of all sets holds of each
+
+tested : {A : Type 0} (P : A → Type 0) (p : A → Bool) → ((x : A) → p x ≡ true → P x) → (xs : List A) → list_all p xs ≡ true → All P xs
+tested P p to [] h k d l = absurd (omega arith)
+tested P p to (x ∷ xs) h zero d l = to x (both (p x) (list_all p xs) h).0
+tested P p to (x ∷ xs) h (suc k) d l = tested P p to xs (both (p x) (list_all p xs) h).1 k d (omega arith)
+
+pub percents_of : (bs : List Borders) → list_all (λ b. list_all (λ p. leb p 100) b.rows.now) bs ≡ true → All (λ b. All (λ p. p ≤ 100) b.rows.now) bs
+percents_of = tested _ _ (λ b. tested (λ p. p ≤ 100) (λ p. leb p 100) (λ p. leb-true p 100) b.rows.now)
+
+pub low_of : (bs : List Borders) → list_all (λ b. list_all (λ c. leb c.fifths 1000 && leb c.times 1000) b.columns.now) bs ≡ true
+    → All (λ b. All (λ c. (c.fifths ≤ 1000) × (c.times ≤ 1000)) b.columns.now) bs
+low_of = tested _ _ (λ b. tested (λ c. (c.fifths ≤ 1000) × (c.times ≤ 1000)) (λ c. leb c.fifths 1000 && leb c.times 1000) low b.columns.now)
+  where
+    low : (c : Border) → (leb c.fifths 1000 && leb c.times 1000) ≡ true → (c.fifths ≤ 1000) × (c.times ≤ 1000)
+    low c h = let p = both (leb c.fifths 1000) (leb c.times 1000) h in (leb-true c.fifths 1000 p.0, leb-true c.times 1000 p.1)
 
 -- ---- a known set is one of the list
 
