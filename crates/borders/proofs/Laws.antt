@@ -1,6 +1,8 @@
 -- The code's sets are the rules'; and a place among borders by the library's word. Assumes nothing.
-use Rattle.std.proofs.Common.{◌≡◌, ℕ, zero, suc, ◌+◌, ◌*◌, ◌≤◌, ◌<◌, ◌&&◌, Bool, true, false, not, List, [], ◌∷◌, length, map, slice_index_or, refl, sym, ap, ◌∙◌, arith, one-add}
+use Rattle.std.proofs.Common.{◌≡◌, ℕ, ◌+◌, ◌*◌, ◌≤◌, ◌<◌, ◌&&◌, Bool, true, false, not, List, [], ◌∷◌, length, map, slice_index_or, refl, sym, ap, ◌∙◌, one-add}
 use Rattle.std.proofs.lemmas.List.{length-map}
+use Rattle.std.proofs.lemmas.List.Folds.{list_all_at}
+use mathlib.Core.Logic.{⊎_elim}
 use Rattle.std.specs.List.{All, list_all, prefix_len}
 use borrow.Author.Tests.{ltb-true, leb-true, leb-false, lt-ltb, le-ltb}
 use lib.Dec.{leb, ltb}
@@ -9,7 +11,7 @@ use Rattle.rules.specs.declared.Settings.{Settings}
 use Rattle.rules.specs.Halves.{full, at_most}
 use Rattle.rules.specs.Borders as rules
 use Rattle.rules.specs.Borders.{sets, known_set, borders_of, place_of, row_of, column_of}
-use Rattle.rules.proofs.Booleans.{both}
+use Rattle.rules.proofs.Booleans.{both, not_both, cases}
 use Rattle.borders.specs.declared.Border.{Border}
 use Rattle.borders.specs.declared.Borders.{Borders}
 use Rattle.borders.specs.Lists.{at_frequency, lists_at}
@@ -17,9 +19,8 @@ use Rattle.borders.specs.Lists.{at_frequency, lists_at}
 -- ---- what is computed of all sets holds of each
 
 tested : {A : Type 0} (P : A → Type 0) (p : A → Bool) → ((x : A) → p x ≡ true → P x) → (xs : List A) → list_all p xs ≡ true → All P xs
-tested P p to [] h k d l = absurd (omega arith)
-tested P p to (x ∷ xs) h zero d l = to x (both (p x) (list_all p xs) h).0
-tested P p to (x ∷ xs) h (suc k) d l = tested P p to xs (both (p x) (list_all p xs) h).1 k d (omega arith)
+tested P p to xs h k d l =
+    ⊎_elim (to (get_or xs k d)) (λ e. absurd (not_both (list_all p xs) h (list_all_at p xs k d l e))) (cases (p (get_or xs k d)))
 
 pub percents_of : (bs : List Borders) → list_all (λ b. list_all (λ p. leb p 100) b.rows.now) bs ≡ true → All (λ b. All (λ p. p ≤ 100) b.rows.now) bs
 percents_of = tested _ _ (λ b. tested (λ p. p ≤ 100) (λ p. leb p 100) (λ p. leb-true p 100) b.rows.now)
